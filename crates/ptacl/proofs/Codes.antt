@@ -1,0 +1,46 @@
+-- The code of a set and the set of a code; a rule over codes, tested at all of the eight, holds of every number.
+use Prim.Native.Nat.{ℕ, _/_, _%_}
+use mathlib.Core.Path.{_≡_, refl, ap, _∙_}
+use mathlib.Core.Bool.{Bool, true}
+use native.Mathlib.Omega.{arith}
+use lib.Dec.{eqb}
+use borrow.Author.Tests.{eqb-true}
+use Rattle.ptacl.specs.Values.{Values, code, setOf}
+use Rattle.ptacl.specs.Pairs.{allBelow}
+use Rattle.ptacl.proofs.Bools.{below-at}
+use Rattle.ptacl.proofs.Finite.{sets, by}
+
+pub code-set : (s : Values) → setOf (code s) ≡ s
+code-set s = λ i. record {
+  has1 = by sets (λ s. setOf (code s) .has1) (λ s. s .has1) refl s i;
+  has0 = by sets (λ s. setOf (code s) .has0) (λ s. s .has0) refl s i;
+  hasU = by sets (λ s. setOf (code s) .hasU) (λ s. s .hasU) refl s i;
+}
+
+-- only the last three bits say what set it is
+low-bits : (c : ℕ) → setOf (c % 8) ≡ setOf c
+low-bits c = λ i. record { has1 = eqb (one i) 1; has0 = eqb (two i) 1; hasU = eqb (four i) 1 }
+  where
+    one : c % 8 % 2 ≡ c % 2
+    one = omega arith
+
+    two : c % 8 / 2 % 2 ≡ c / 2 % 2
+    two = omega arith
+
+    four : c % 8 / 4 % 2 ≡ c / 4 % 2
+    four = omega arith
+
+-- a function of codes is right at all eight
+abbrev pub right : (ℕ → ℕ) → (Values → Values) → Bool
+right t f = allBelow (λ k. eqb (t k) (code (f (setOf k)))) 8
+
+pub of-code : (t : ℕ → ℕ) (f : Values → Values) → right t f ≡ true → (c : ℕ) → t (c % 8) ≡ code (f (setOf c))
+of-code t f h c =
+    eqb-true _ _ (below-at (λ k. eqb (t k) (code (f (setOf k)))) 8 h (c % 8) (omega arith)) ∙ ap (λ s. code (f s)) (low-bits c)
+
+-- and so for a function of two codes, at all 64 pairs
+pub of-codes : (t : ℕ → ℕ → ℕ) (f : Values → Values → Values) → allBelow (λ k. right (t k) (f (setOf k))) 8 ≡ true
+    → (c d : ℕ) → t (c % 8) (d % 8) ≡ code (f (setOf c) (setOf d))
+of-codes t f h c d =
+    of-code (t (c % 8)) (f (setOf (c % 8))) (below-at (λ k. right (t k) (f (setOf k))) 8 h (c % 8) (omega arith)) d
+    ∙ ap (λ s. code (f s (setOf d))) (low-bits c)

@@ -1,0 +1,17 @@
+pub mod Bools
+pub mod Finite
+pub mod Codes
+pub mod Requests
+pub mod Order
+pub mod Count
+pub mod Fresh
+pub mod Pairs
+pub mod Normal
+pub mod Bits
+pub mod Subset
+pub mod Exposed
+pub mod First
+pub mod Sets
+pub mod Rules
+pub mod Cert
+pub mod Worked

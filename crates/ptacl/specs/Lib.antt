@@ -1,0 +1,9 @@
+pub mod Value
+pub mod Values
+pub mod Request
+pub mod Term
+pub mod Meaning
+pub mod Pairs
+pub mod Exposure
+pub mod Rules
+pub mod Cases
