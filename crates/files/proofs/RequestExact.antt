@@ -1,0 +1,95 @@
+-- A file is read as a request exactly if it is that request's file; what a read request gives the passes behind it.
+use Prim.Native.Nat.{ℕ, _-_, _/_, _≤_}
+use mathlib.Core.Path.{_≡_, refl, sym, ap, subst, _∙_}
+use mathlib.Core.Logic.{_↔_}
+use mathlib.Core.Bool.{true≢false}
+use mathlib.Core.List.{List, map}
+use native.Mathlib.Omega.{arith}
+use lib.ListN.{length, take}
+use Rattle.ptacl.specs.Request.{Request}
+use Rattle.ptacl.specs.Pairs.{packed}
+use Rattle.files.specs.declared.request.RequestRead.{RequestRead}
+use Rattle.files.specs.Encoding.{framed, pairBytes, requestFile, FitsRequest, IsRequest, Bytes}
+use Rattle.files.specs.Refusal.{Read, accepted, refused}
+use Rattle.files.specs.ReadRequest.{pairsAt, inOrder, readRequest}
+use Rattle.files.specs.Cases.{RequestAs, held, not-held}
+use Rattle.files.proofs.Framing.{framed-whole, framed-body}
+use Rattle.files.proofs.Memory.{request-length}
+use Rattle.files.proofs.InOrder.{Ordering, ascends, falls, ordering}
+use Rattle.files.proofs.RequestBody.{pairs-range, pairs-length, pairs-bytes, bytes-pairs}
+use Rattle.files.proofs.RequestCases.{request-pairs, Outcome, bad, good, outcome}
+
+file-pairs : (q : Request) → pairsAt (length q) (requestFile q) 3 ≡ q
+unfolding requestFile framed
+file-pairs q = bytes-pairs q (requestFile q) 3 refl
+
+pub request-file-injective : (q r : Request) → requestFile q ≡ requestFile r → q ≡ r
+request-file-injective q r e =
+    let f = ap length e in
+    let l : length q ≡ length r = omega (arith, request-length q, request-length r) in
+    sym (file-pairs q) ∙ (rw (l, e) (file-pairs r))
+
+clash {ℓ} : {A : Type ℓ} {r : Read Request} {n p : ℕ} {q : Request} → r ≡ refused n p → r ≡ accepted q → A
+clash e f = let z : _≡_ {A = ℕ} 0 1 = cc in absurd (omega arith)
+
+pub reads : (q : Request) → FitsRequest q → readRequest (requestFile q) ≡ accepted q
+unfolding requestFile
+reads q f =
+    let s : List ℕ = requestFile q in
+    let l = request-length q in
+    let few = f .few in
+    let n : (length s - 3) / 4 ≡ length q = omega arith in
+    let e : pairsAt ((length s - 3) / 4) s 3 ≡ q = ap (λ k. pairsAt k s 3) n ∙ file-pairs q in
+    request-pairs (framed-whole (pairBytes q)) (omega arith) (omega arith) ∙ ap (λ ps. inOrder ps 3 ps) e ∙ up (ordering q 3 q)
+  where
+    up : Ordering q 3 q → inOrder q 3 q ≡ accepted q
+    up (ascends a i) = i
+    up (falls k m l a i) = absurd (true≢false (sym (f .ordered) ∙ a))
+
+pub request-reads : {s : List ℕ} {q : Request} → IsRequest s q → readRequest s ≡ accepted q
+request-reads {q = q} i = ap readRequest (i .file) ∙ reads q (i .fits)
+
+pub request-exact : (s : List ℕ) → Bytes s → (q : Request) → (readRequest s ≡ accepted q) ↔ IsRequest s q
+unfolding requestFile
+request-exact s b q = (λ e. at (outcome s) e, request-reads)
+  where
+    at : Outcome s → readRequest s ≡ accepted q → IsRequest s q
+    at (bad n p l h m r) e = clash r e
+    at (good w n few l a r) e =
+        let d : pairsAt n s 3 ≡ q = cc in
+        let k = pairs-length n s 3 in
+        subst (IsRequest s) d (record {
+          file = sym (ap framed (pairs-bytes b n 3 l) ∙ framed-body w b);
+          fits = record { few = omega arith; ordered = a; range = pairs-range b n 3 };
+        })
+
+pub request-refused-range : (s : List ℕ) {n p : ℕ} → readRequest s ≡ refused n p → (21 ≤ n) × (n ≤ 26) × (p ≤ 1027)
+request-refused-range s {n} {p} e = at (outcome s)
+  where
+    at : Outcome s → (21 ≤ n) × (n ≤ 26) × (p ≤ 1027)
+    at (bad m q l h k r) = let a : m ≡ n = cc in let b : q ≡ p = cc in (omega arith, omega arith, omega arith)
+    at (good w m few l a r) = clash e r
+
+-- number 0: the pairs at the front of the array are those of the request that the file holds
+pub record Held (s : List ℕ) (r : RequestRead) : Type 0 where
+  pub request : Request
+  pub read : readRequest s ≡ accepted request
+  pub few : r .count ≤ 256
+  pub pairs : take (r .count) (r .pairs) ≡ map packed request
+  pub fits : FitsRequest request
+
+module _ (s : List ℕ) (r : RequestRead) (h : RequestAs r (readRequest s)) where
+  pub request-held : Bytes s → r .number ≡ 0 → Held s r
+  request-held b z = at (readRequest s) refl h
+    where
+      at : (x : Read Request) → readRequest s ≡ x → RequestAs r x → Held s r
+      at x e (held {q} n few p) = record { request = q; read = e; few = few; pairs = p; fits = request-exact s b q .0 e .fits }
+      at x e (not-held m n p) = absurd (omega arith)
+
+  -- else the file is refused
+  pub request-not-held : (r .number ≡ 0 → ⊥) → readRequest s ≡ refused (r .number) (r .place)
+  request-not-held z = at (readRequest s) refl h
+    where
+      at : (x : Read Request) → readRequest s ≡ x → RequestAs r x → readRequest s ≡ refused (r .number) (r .place)
+      at x e (held n few p) = absurd (z n)
+      at x e (not-held m n p) = rw (n, p) e

@@ -1,0 +1,72 @@
+-- At each `return` the tests that led there say which case of a head it is.
+use Prim.Native.Nat.{ℕ}
+use mathlib.Core.Path.{sym, ap, _∙_}
+use lib.ListN.{getD}
+use borrow.Author.Needs.{needs}
+use Rattle.files.specs.ReadPolicy.{byteAt}
+use Rattle.files.specs.Cases.{sortOf, headOf}
+use Rattle.files.specs.declared.policy.Head.{Head}
+use Rattle.files.proofs.PolicySteps.{head-cut, head-unknown, head-limit, head-node}
+use Rattle.files.proofs.PolicySeen.{Names, byte-tag, byte-unknown}
+use Rattle.files.proofs.policy.head_at.Statement.{statement}
+use Rattle.files.proofs.policy.head_at.Tie as tie
+
+returns : tie.Need-returns
+returns c = ap (λ h. headOf h) (sym (head-cut _ _ _ _ _ (c .if1 .taken)))
+
+shared-slice-read-byte-at : tie.Need-shared-slice-read-byte-at
+shared-slice-read-byte-at c = search needs
+
+byte-at-requires : tie.Need-byte-at-requires
+byte-at-requires c κs = search needs
+
+enum-known-tag : tie.Need-enum-known-tag
+enum-known-tag c = search needs
+
+limit-requires : tie.Need-limit-requires
+limit-requires c κs = search needs
+
+enum-told : tie.Need-enum-told
+enum-told c = search needs
+
+-- the byte's node is named by the tag that the arm binds
+named : (c : tie.After-tag) →
+    let a = c .before .before .before .before .before .before .args in
+    Names (byteAt (sortOf (a .sort)) (getD (a .file .now) (a .at) 0)) (c .tag .given .0 .0)
+named c = byte-tag _ _ (sym (c .before .before .byte-at .ensures) ∙ c .tag .given .1)
+
+returns-2 : tie.Need-returns-2
+returns-2 c =
+    let d = c .before .before .before in
+    let w = named d in
+    let l = sym (c .before .limit .ensures) ∙ c .if2 .taken in
+    ap Head.Node (sym (w .so))
+    ∙ ap (λ h. headOf h) (sym (head-node _ _ _ _ _ (w .its) (d .before .before .before .before .if1 .left) (w .is) l))
+
+returns-3 : tie.Need-returns-3
+returns-3 c =
+    let d = c .before .before .before in
+    let i = d .before .before .before .before in
+    let w = named d in
+    ap (λ (n : ℕ). Head.Stop n (i .before .before .args .at)) (c .before .limit .ensures)
+    ∙ ap (λ h. headOf h) (sym (head-limit _ _ _ _ _ (w .its) (i .if1 .left) (w .is) (λ e. c .if2 .left (c .before .limit .ensures ∙ e))))
+
+returns-4 : tie.Need-returns-4
+returns-4 c =
+    let d = c .before .before in
+    let e = byte-unknown _ (sym (d .byte-at .ensures) ∙ c .enum-told .given .1) in
+    ap (λ h. headOf h) (sym (head-unknown _ _ _ _ _ (d .before .before .if1 .left) e))
+
+pub head-at-spec : {M : Type 1} → statement M
+head-at-spec =
+    tie.close
+    (tie.spec
+    returns
+    shared-slice-read-byte-at
+    byte-at-requires
+    enum-known-tag
+    limit-requires
+    enum-told
+    returns-2
+    returns-3
+    returns-4)

@@ -1,0 +1,73 @@
+-- The four bytes of a pair, as four stores in a row.
+use Prim.Native.Nat.{_/_, _%_}
+use mathlib.Core.Path.{_≡_}
+use native.Mathlib.Omega.{arith}
+use lib.ListN.{length-set}
+use Rattle.files.specs.Encoding.{pairBytes}
+use Rattle.files.proofs.Memory.{four-stores}
+use borrow.Author.Needs.{needs}
+use Rattle.files.proofs.write.put_pair.Statement.{statement}
+use Rattle.files.proofs.write.put_pair.Tie as tie
+
+cast-space : tie.Need-cast-space
+cast-space c = search needs
+
+slice-write-space : tie.Need-slice-write-space
+slice-write-space c = search needs
+
+cast-space-2 : tie.Need-cast-space-2
+cast-space-2 c = search needs
+
+add-space : tie.Need-add-space
+add-space c = search needs
+
+slice-write-space-2 : tie.Need-slice-write-space-2
+slice-write-space-2 c = simp length-set (omega arith)
+
+cast-space-3 : tie.Need-cast-space-3
+cast-space-3 c = search needs
+
+add-space-2 : tie.Need-add-space-2
+add-space-2 c = search needs
+
+slice-write-space-3 : tie.Need-slice-write-space-3
+slice-write-space-3 c = simp length-set (omega arith)
+
+cast-space-4 : tie.Need-cast-space-4
+cast-space-4 c = search needs
+
+add-space-3 : tie.Need-add-space-3
+add-space-3 c = search needs
+
+slice-write-space-4 : tie.Need-slice-write-space-4
+slice-write-space-4 c = simp length-set (omega arith)
+
+same-length : tie.Need-same-length
+same-length c = search needs
+
+returns : tie.Need-returns
+unfolding pairBytes
+returns c =
+    let p = c .args .pair in
+    let a : p / 65536 / 256 ≡ p / 16777216 = omega arith in
+    let b : p % 65536 / 256 ≡ p / 256 % 256 = omega arith in
+    let d : p % 65536 % 256 ≡ p % 256 = omega arith in
+    rw (a, b, d) (four-stores (c .args .space .now) (c .args .at) _ _ _ _ (c .pre))
+
+pub put-pair-spec : {M : Type 1} → statement M
+put-pair-spec =
+    tie.close
+    (tie.spec
+    cast-space
+    slice-write-space
+    cast-space-2
+    add-space
+    slice-write-space-2
+    cast-space-3
+    add-space-2
+    slice-write-space-3
+    cast-space-4
+    add-space-3
+    slice-write-space-4
+    same-length
+    returns)

@@ -1,0 +1,7 @@
+pub mod Encoding
+pub mod Refusal
+pub mod ReadPolicy
+pub mod ReadRequest
+pub mod Places
+pub mod Memory
+pub mod Cases

@@ -1,0 +1,24 @@
+-- What the passes over a file that was read rest on: a term stands at a place of its bytes.
+use Prim.Native.Nat.{ℕ, _≤_}
+use mathlib.Core.Path.{_≡_}
+use mathlib.Core.List.{List, _++_}
+use lib.ListN.{drop}
+use Rattle.ptacl.specs.Term.{Sort, Term, Policy, nodes}
+use Rattle.files.specs.Encoding.{enc}
+
+-- the bytes from a place on begin with xs
+pub record At (b : List ℕ) (at : ℕ) (xs : List ℕ) : Type 0 where
+  pub rest : List ℕ
+  pub split : drop at b ≡ xs ++ rest
+
+-- a term of the sort stands at a place, of at most so many nodes
+pub record Has (s : Sort) (b : List ℕ) (at left : ℕ) : Type 0 where
+  pub term : Term s
+  pub here : At b at (enc term)
+  pub few : nodes term ≤ left
+
+-- these bytes are those of a policy within the limit of nodes
+pub record Encoded (b : List ℕ) : Type 0 where
+  pub term : Policy
+  pub bytes : b ≡ enc term
+  pub few : nodes term ≤ 255
