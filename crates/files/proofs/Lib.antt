@@ -16,3 +16,4 @@ pub mod PolicyComplete
 pub mod PolicyExact
 pub mod View
 pub mod WorkedPolicy
+pub mod Walk

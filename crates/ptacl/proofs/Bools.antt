@@ -44,6 +44,11 @@ pub or-split : (a : Bool) {b : Bool} → (a || b) ≡ true → (a ≡ true) ⊎ 
 or-split true h = inl refl
 or-split false h = inr h
 
+pub or-swap : (a b c : Bool) → (a || (b || c)) ≡ (b || (a || c))
+or-swap true true c = refl
+or-swap true false c = refl
+or-swap false b c = refl
+
 -- two tests that pass together are equal
 pub iff : {a b : Bool} → (a ≡ true → b ≡ true) → (b ≡ true → a ≡ true) → a ≡ b
 iff {a = true} f g = sym (f refl)

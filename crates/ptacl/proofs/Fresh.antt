@@ -36,7 +36,7 @@ run-members n v (suc k) x h = found (n, v) (run n (suc v) k) x
     (λ h. let r = run-members n (suc v) k x h in (r .0, omega arith)) h
 
 -- as many values as are named for a name from 0 on, so many atoms there are
-full : (ats : List Pair) (n k : ℕ) → allBelow (λ v. named ats (n, v)) k ≡ true → k ≤ length ats
+pub full : (ats : List Pair) (n k : ℕ) → allBelow (λ v. named ats (n, v)) k ≡ true → k ≤ length ats
 full ats n k h =
     let e = run-length n 0 k in
     let l = within-length (run n 0 k) ats (run-ascending n 0 k) (record { up = inside }) in
@@ -77,7 +77,7 @@ fresh-exists ats n h = and-both h (and-both (not-false unnamed) (gap-below test 
         let l = full ats n (freshValue ats n) (gap-below test bound) in
         ⊎-elim (λ e. absurd (omega arith)) (λ e. e) (gap-fails test bound)
 
-fresh-unnamed : (ats : List Pair) (x : Pair) → fresh ats x ≡ true → named ats x ≡ false
+pub fresh-unnamed : (ats : List Pair) (x : Pair) → fresh ats x ≡ true → named ats x ≡ false
 fresh-unnamed ats x h = not-true _ (and-left _ (and-right (has ats (x .0)) h))
 
 fresh-above : (ats : List Pair) (x : Pair) → fresh ats x ≡ true → allBelow (λ v. named ats (x .0, v)) (x .1) ≡ true

@@ -8,7 +8,7 @@ use lib.ListN.{length, length-append, length-map}
 use Rattle.ptacl.specs.Request.{Pair, samePair, holds, below, belowHead, ascending}
 use Rattle.ptacl.specs.Term.{Sort, target, policy, Term, Policy, atom, deny, allow, targeted, not, default, and, nodes, atoms}
 use Rattle.ptacl.specs.Pairs.{named, fresh, namedOrFresh, IsPairs}
-use Rattle.ptacl.proofs.Bools.{either, and-left, and-right, and-both, iff}
+use Rattle.ptacl.proofs.Bools.{either, and-left, and-right, and-both, or-swap, iff}
 use Rattle.ptacl.proofs.Requests.{pair-equal, found, holds-append, holds-has, has-holds, holds-map, map-holds}
 use Rattle.ptacl.proofs.Order.{below-else, head-below, cons-ascending, ascending-same}
 use Rattle.ptacl.proofs.Count.{within-length}
@@ -19,16 +19,11 @@ abbrev pub insert : Pair → List Pair → List Pair
 insert x [] = x ∷ []
 insert x (y ∷ ys) = cond (below x y) (x ∷ y ∷ ys) (cond (samePair x y) (y ∷ ys) (y ∷ insert x ys))
 
-swap : (a b c : Bool) → (a || (b || c)) ≡ (b || (a || c))
-swap true true c = refl
-swap true false c = refl
-swap false b c = refl
-
 insert-holds : (x : Pair) (ys : List Pair) (z : Pair) → holds (insert x ys) z ≡ (samePair x z || holds ys z)
 insert-holds x [] z = refl
 insert-holds x (y ∷ ys) z = either (below x y) (λ a. rw a) (λ a. rw a (either (samePair x y)
     (λ b. rw b (rw (pair-equal x y b) (sym (or-self-left (samePair y z) (holds ys z)))))
-    (λ b. rw b (ap (λ c. samePair y z || c) (insert-holds x ys z) ∙ swap (samePair y z) (samePair x z) (holds ys z)))))
+    (λ b. rw b (ap (λ c. samePair y z || c) (insert-holds x ys z) ∙ or-swap (samePair y z) (samePair x z) (holds ys z)))))
 
 insert-ascending : (x : Pair) (ys : List Pair) → ascending ys ≡ true → ascending (insert x ys) ≡ true
 insert-ascending x [] h = refl

@@ -1,0 +1,90 @@
+-- For any evaluator that promises `Evaluated`: what the answers for a node's parts make of the whole, one law a node.
+use Prim.Native.Nat.{ℕ, _+_, _-_, _/_, _%_, _<_}
+use mathlib.Core.Path.{_≡_, refl, ap, ap₂, _∙_}
+use mathlib.Core.List.{List}
+use native.Mathlib.Nat.{add-assoc}
+use native.Mathlib.Omega.{arith}
+use lib.ListN.{getD}
+use Rattle.ptacl.specs.Value.{Value, v1, v0, notV, defaultV, andV}
+use Rattle.ptacl.specs.Values.{single, each, each2, under, code, setOf}
+use Rattle.ptacl.specs.Request.{Request}
+use Rattle.ptacl.specs.Term.{Sort, target, policy, Term, anAtom, aDeny, anAllow, aTargeted, aNot, aDefault, anAnd, tagOf}
+use Rattle.ptacl.specs.Meaning.{Meaning, lift, lift2, atomAt, eval}
+use Rattle.ptacl.specs.Pairs.{packed, unpacked}
+use Rattle.ptacl.proofs.Codes.{code-set}
+use Rattle.files.specs.Encoding.{enc, Bytes}
+use Rattle.files.specs.Refusal.{dec16}
+use Rattle.files.specs.Places.{At, Has}
+use Rattle.files.proofs.BigEndian.{dec16-range}
+use Rattle.files.proofs.Numbers.{unpacked-packed}
+use Rattle.files.proofs.View.{as-atom, as-deny, as-allow, as-targeted, as-not, as-default, as-and}
+use Rattle.files.proofs.View.{has-left, ends-atom, ends-deny, ends-allow, ends-targeted, ends-not, ends-default, ends-and}
+use Rattle.evaluate.specs.Evaluated.{Told, told, Evaluated}
+
+-- what an operation on values makes of an answer, and of two answers
+abbrev pub act : (Value → Value) → (s : Sort) → Told s → Told s
+act f target v = f v
+act f policy c = code (each f (setOf c))
+
+abbrev pub act2 : (Value → Value → Value) → (s : Sort) → Told s → Told s → Told s
+act2 f target v w = f v w
+act2 f policy c d = code (each2 f (setOf c) (setOf d))
+
+pub act-told : (f : Value → Value) (s : Sort) (x : Meaning s) → act f s (told s x) ≡ told s (lift f s x)
+unfolding lift
+act-told f target x = refl
+act-told f policy x = ap (λ z. code (each f z)) (code-set x)
+
+pub act2-told : (f : Value → Value → Value) (s : Sort) (x y : Meaning s) → act2 f s (told s x) (told s y) ≡ told s (lift2 f s x y)
+unfolding lift2
+act2-told f target x y = refl
+act2-told f policy x y = ap₂ (λ z w. code (each2 f z w)) (code-set x) (code-set y)
+
+-- an operation on the answer for a term
+acted : (f : Value → Value) {s : Sort} {b : List ℕ} {i m : ℕ} {q : Request} {v w : Told s}
+    → Evaluated s b i q v m → w ≡ act f s v → (t : Term s) → At b i (enc t) → w ≡ told s (lift f s (eval t q))
+acted f {s = s} {q = q} x e t h = e ∙ ap (act f s) (x .value t h) ∙ act-told f s (eval t q)
+
+-- what an evaluator, given t nodes left and a fact P, asks where it calls itself for a part
+pub for-part : {s : Sort} {b : List ℕ} {i left t m : ℕ} {P : Type 0} → (left ≡ t) × (Has s b i left × P) → Has s b m (left - 1)
+    → (left - 1 < t) × (Has s b m (left - 1) × P)
+for-part p h = (omega (arith, has-left (p .1 .0)), (h, p .1 .1))
+
+module _ {b : List ℕ} {i : ℕ} {q : Request} where
+  pub is-atom : {x : ℕ} {v : Value} → Bytes b → getD b i 0 ≡ tagOf anAtom → x ≡ packed (dec16 b (i + 1), dec16 b (i + 1 + 2))
+      → v ≡ atomAt q (x / 65536) (x % 65536) → Evaluated target b i q v (i + 5)
+  is-atom {x = x} bs e f g = record {
+    value = as-atom _ e (rw (← add-assoc i 1 2) (g ∙ ap (λ y. atomAt q (y .0) (y .1)) its));
+    past = ends-atom e;
+  }
+    where
+      its : unpacked x ≡ (dec16 b (i + 1), dec16 b (i + 1 + 2))
+      its = ap unpacked f ∙ unpacked-packed _ (dec16-range bs (i + 1 + 2))
+
+  pub is-deny : {c : ℕ} → getD b i 0 ≡ tagOf aDeny → c ≡ code (single v0) → Evaluated policy b i q c (i + 1)
+  is-deny e f = record { value = as-deny _ e f; past = ends-deny e }
+
+  pub is-allow : {c : ℕ} → getD b i 0 ≡ tagOf anAllow → c ≡ code (single v1) → Evaluated policy b i q c (i + 1)
+  is-allow e f = record { value = as-allow _ e f; past = ends-allow e }
+
+  pub is-targeted : {v : Value} {m c n d : ℕ} → getD b i 0 ≡ tagOf aTargeted → Evaluated target b (i + 1) q v m → Evaluated policy b m q c n
+      → d ≡ code (under v (setOf c)) → Evaluated policy b i q d n
+  is-targeted e x y f = record {
+    value = as-targeted _ e (x .past)
+        (λ t p h g. f ∙ ap₂ (λ v z. code (under v z)) (x .value t h) (ap setOf (y .value p g) ∙ code-set (eval p q)));
+    past = ends-targeted e (x .past) (y .past);
+  }
+
+  module _ {s : Sort} {v w : Told s} {m : ℕ} where
+    pub is-not : getD b i 0 ≡ tagOf (aNot s) → Evaluated s b (i + 1) q v m → w ≡ act notV s v → Evaluated s b i q w m
+    is-not e x f = record { value = as-not _ e (acted notV x f); past = ends-not e (x .past) }
+
+    pub is-default : getD b i 0 ≡ tagOf (aDefault s) → Evaluated s b (i + 1) q v m → w ≡ act defaultV s v → Evaluated s b i q w m
+    is-default e x f = record { value = as-default _ e (acted defaultV x f); past = ends-default e (x .past) }
+
+    pub is-and : {y : Told s} {n : ℕ} → getD b i 0 ≡ tagOf (anAnd s) → Evaluated s b (i + 1) q v m → Evaluated s b m q w n
+        → y ≡ act2 andV s v w → Evaluated s b i q y n
+    is-and e x y f = record {
+      value = as-and _ e (x .past) (λ t u h g. f ∙ ap₂ (act2 andV s) (x .value t h) (y .value u g) ∙ act2-told andV s (eval t q) (eval u q));
+      past = ends-and e (x .past) (y .past);
+    }

@@ -1,0 +1,174 @@
+-- The cycle {single::eval_policy}, by the nodes left: at each return the law of its node.
+use Prim.Native.Nat.{ℕ, _<_}
+use mathlib.Core.Path.{_≡_, refl}
+use native.Mathlib.Omega.{arith}
+use lib.ListN.{getD}
+use borrow.Fn.Kinds.{In}
+use borrow.Fn.PlainCycle.{Measures, is, falls, and}
+use Rattle.ptacl.specs.Term.{policy, anAnd, tagOf}
+use Rattle.files.specs.Places.{Has}
+use Rattle.files.proofs.View.{Inner, has-room, has-left, has-target, has-body, has-inner, has-and-tag, has-first, has-second}
+use Rattle.evaluate.specs.Ordered.{Ordered}
+use Rattle.evaluate.proofs.Nodes.{for-part, is-deny, is-allow, is-targeted, is-not, is-default, is-and}
+use Rattle.evaluate.proofs.single.eval_policy.Reads as eval-policy
+use Rattle.evaluate.proofs.single.eval_policy.Kinds as kinds
+use Rattle.evaluate.proofs.single.+eval_policy.Lts-eval_policy as lts
+use Rattle.evaluate.proofs.single.eval_target.Reads as eval-target-reads
+use Rattle.ptacl.proofs.DecisionSet.and.Reads as and-reads
+use Rattle.ptacl.proofs.DecisionSet.deny_by_default.Reads as deny-by-default-reads
+use Rattle.ptacl.proofs.DecisionSet.not.Reads as not-reads
+use Rattle.ptacl.proofs.DecisionSet.targeted.Reads as targeted-reads
+use Rattle.evaluate.proofs.single.+eval_policy.{statement}
+use Rattle.evaluate.proofs.single.+eval_policy.Tie.{close}
+
+abbrev μ : Measures 2 kinds.ps ℕ
+μ κs a = a .1 .1 .0
+
+-- what the function is given at the measure t, and what a call of it asks below t
+abbrev at : ℕ → In 2 kinds.ps
+at t = and 2 kinds.ps (is 2 kinds.ps μ t) eval-policy.Pre
+
+abbrev below : ℕ → In 2 kinds.ps
+below t = and 2 kinds.ps (falls 2 kinds.ps _<_ μ t) eval-policy.Pre
+
+abbrev cs : ℕ → lts.Claims
+cs t = (
+  eval-target-reads.Asked,
+  eval-target-reads.Learnt,
+  below t,
+  eval-policy.Post,
+  targeted-reads.Asked,
+  targeted-reads.Learnt,
+  not-reads.Asked,
+  not-reads.Learnt,
+  deny-by-default-reads.Asked,
+  deny-by-default-reads.Learnt,
+  and-reads.Asked,
+  and-reads.Learnt,
+)
+
+module _ (t : ℕ) where
+  -- where the byte is read: what the function was given
+  given : (c : lts.After-shared-slice-known3 (cs t) (at t) eval-policy.Post) →
+      let a = c .before .before .before .args in
+      (a .left ≡ t) × (Has policy (a .file .now) (a .at) (a .left) × Ordered (a .request .now))
+  given c = c .before .before .before .pre
+
+  -- where it is not deny's, allow's or a targeted's, a policy is next
+  inner : (c : lts.Else3 (cs t) (at t) eval-policy.Post) →
+      let a = c .before .before .before .before .before .before .args in Inner policy (getD (a .file .now) (a .at) 0)
+  inner c = has-inner (given (c .before .before .before) .1 .0) (c .before .before .if1 .left, c .before .if2 .left, c .if3 .left)
+
+  -- where it is none of the others, it is an and's
+  and-tag : (c : lts.Else5 (cs t) (at t) eval-policy.Post) →
+      let a = c .before .before .before .before .before .before .before .before .before .before .args in
+      getD (a .file .now) (a .at) 0 ≡ tagOf (anAnd policy)
+  and-tag c = has-and-tag (inner (c .before .before .before .before)) (c .before .if4 .left) (c .if5 .left)
+
+  shared-slice-read-tag : lts.Need-shared-slice-read-tag (cs t) (at t) eval-policy.Post
+  shared-slice-read-tag c = has-room (given c .1 .0)
+
+  add-t20 : lts.Need-add-t20 (cs t) (at t) eval-policy.Post
+  add-t20 c = omega (arith, has-room (given (c .before) .1 .0))
+
+  returns : lts.Need-returns (cs t) (at t) eval-policy.Post
+  returns c = is-deny (c .if1 .taken) refl
+
+  add-t22 : lts.Need-add-t22 (cs t) (at t) eval-policy.Post
+  add-t22 c = omega (arith, has-room (given (c .before .before) .1 .0))
+
+  returns-2 : lts.Need-returns-2 (cs t) (at t) eval-policy.Post
+  returns-2 c = is-allow (c .if2 .taken) refl
+
+  add-eval-target : lts.Need-add-eval-target (cs t) (at t) eval-policy.Post
+  add-eval-target c = omega (arith, has-room (given (c .before .before .before) .1 .0))
+
+  sub-eval-target : lts.Need-sub-eval-target (cs t) (at t) eval-policy.Post
+  sub-eval-target c = has-left (given (c .before .before .before) .1 .0)
+
+  eval-target-requires : lts.Need-eval-target-requires (cs t) (at t) eval-policy.Post
+  eval-target-requires c κs =
+      (has-target (given (c .before .before .before) .1 .0) (c .if3 .taken), given (c .before .before .before) .1 .1)
+
+  sub-eval-policy : lts.Need-sub-eval-policy (cs t) (at t) eval-policy.Post
+  sub-eval-policy c = has-left (given (c .before .before .before .before) .1 .0)
+
+  eval-policy-requires : lts.Need-eval-policy-requires (cs t) (at t) eval-policy.Post
+  eval-policy-requires c κs =
+      let g = given (c .before .before .before .before) in
+      for-part g (has-body (g .1 .0) (c .before .if3 .taken) (c .eval-target .ensures .past))
+
+  targeted-requires : lts.Need-targeted-requires (cs t) (at t) eval-policy.Post
+  targeted-requires c κs = tt
+
+  returns-3 : lts.Need-returns-3 (cs t) (at t) eval-policy.Post
+  returns-3 c = is-targeted
+      (c .before .before .before .before .if3 .taken)
+      (c .before .before .before .eval-target .ensures)
+      (c .before .before .eval-policy .ensures)
+      (c .targeted .ensures)
+
+  add-eval-policy : lts.Need-add-eval-policy (cs t) (at t) eval-policy.Post
+  add-eval-policy c = omega (arith, has-room (given (c .before .before .before) .1 .0))
+
+  sub-eval-policy-2 : lts.Need-sub-eval-policy-2 (cs t) (at t) eval-policy.Post
+  sub-eval-policy-2 c = has-left (given (c .before .before .before) .1 .0)
+
+  eval-policy-requires-2 : lts.Need-eval-policy-requires-2 (cs t) (at t) eval-policy.Post
+  eval-policy-requires-2 c κs = let g = given (c .before .before .before) in for-part g (has-first (g .1 .0) (inner c))
+
+  not-requires : lts.Need-not-requires (cs t) (at t) eval-policy.Post
+  not-requires c κs = tt
+
+  returns-4 : lts.Need-returns-4 (cs t) (at t) eval-policy.Post
+  returns-4 c = is-not (c .before .if4 .taken) (c .before .before .before .eval-policy2 .ensures) (c .not .ensures)
+
+  deny-by-default-requires : lts.Need-deny-by-default-requires (cs t) (at t) eval-policy.Post
+  deny-by-default-requires c κs = tt
+
+  returns-5 : lts.Need-returns-5 (cs t) (at t) eval-policy.Post
+  returns-5 c = is-default (c .before .if5 .taken) (c .before .before .before .before .eval-policy2 .ensures) (c .deny-by-default .ensures)
+
+  sub-eval-policy-3 : lts.Need-sub-eval-policy-3 (cs t) (at t) eval-policy.Post
+  sub-eval-policy-3 c = has-left (given (c .before .before .before .before .before .before .before) .1 .0)
+
+  eval-policy-requires-3 : lts.Need-eval-policy-requires-3 (cs t) (at t) eval-policy.Post
+  eval-policy-requires-3 c κs =
+      let g = given (c .before .before .before .before .before .before .before) in
+      for-part g (has-second (g .1 .0) (and-tag c) (c .before .before .before .eval-policy2 .ensures .past))
+
+  and-requires : lts.Need-and-requires (cs t) (at t) eval-policy.Post
+  and-requires c κs = tt
+
+  returns-6 : lts.Need-returns-6 (cs t) (at t) eval-policy.Post
+  returns-6 c = is-and
+      (and-tag (c .before .before .before))
+      (c .before .before .before .before .before .before .eval-policy2 .ensures)
+      (c .before .before .eval-policy3 .ensures)
+      (c .and .ensures)
+
+pub +eval-policy-spec : {M : Type 1} → statement M
++eval-policy-spec = close μ λ t. lts.spec (cs t) (at t) eval-policy.Post
+    (shared-slice-read-tag t)
+    (add-t20 t)
+    (returns t)
+    (add-t22 t)
+    (returns-2 t)
+    (add-eval-target t)
+    (sub-eval-target t)
+    (eval-target-requires t)
+    (sub-eval-policy t)
+    (eval-policy-requires t)
+    (targeted-requires t)
+    (returns-3 t)
+    (add-eval-policy t)
+    (sub-eval-policy-2 t)
+    (eval-policy-requires-2 t)
+    (not-requires t)
+    (returns-4 t)
+    (deny-by-default-requires t)
+    (returns-5 t)
+    (sub-eval-policy-3 t)
+    (eval-policy-requires-3 t)
+    (and-requires t)
+    (returns-6 t)

@@ -1,0 +1,3 @@
+// What a policy that was read comes to for one request.
+pub mod order;
+pub mod single;

@@ -1,0 +1,77 @@
+-- The loop that puts the fresh pair of each name to the named pairs.
+use Prim.Native.Nat.{ℕ, _+_, _/_, _≤_, _<_}
+use mathlib.Core.Path.{_≡_, refl, sym, ap, _∙_}
+use mathlib.Core.Bool.{true, _&&_, _||_, or-assoc, or-false, and-or-distrib-right}
+use mathlib.Core.List.{List, map}
+use native.Mathlib.Numerals.{add-one}
+use native.Mathlib.Omega.{arith}
+use lib.Dec.{eqb}
+use lib.ListN.{length, take, drop, getD, drop-of-length-le}
+use lib.Seq.{drop-cons, length-take-le, getD-take}
+use Rattle.ptacl.specs.Request.{Pair, samePair, holds, has, ascending}
+use Rattle.ptacl.specs.Pairs.{namedOrFresh, IsPairs, unpacked}
+use Rattle.ptacl.proofs.Bools.{or-swap}
+use Rattle.ptacl.proofs.Requests.{holds-has}
+use Rattle.evaluate.proofs.Ordered.{entry-held}
+use Rattle.pairs.specs.Lists.{numbers, carry, FreshOf, AllOf}
+use Rattle.pairs.specs.declared.Pairs.{Pairs}
+use Rattle.pairs.proofs.Carry.{carry-holds, carry-ascending}
+use Rattle.pairs.proofs.Fresh.{smallest, fresh-only}
+use Rattle.pairs.proofs.Same.{pairs-same}
+
+-- the pairs in the list and the fresh ones of the names still to come are all
+pub record Completed (from : List ℕ) (count : ℕ) (all : Pairs) (i : ℕ) : Type 0 where
+  pub most : i ≤ count
+  pub room : all .count ≤ count + i
+  pub ordered : ascending (map unpacked (numbers all)) ≡ true
+  pub work : (x : Pair)
+      → (holds (map unpacked (numbers all)) x
+      || has (map unpacked (drop i (take count from))) (x .0) && smallest (map unpacked (take count from)) x)
+      ≡ namedOrFresh (map unpacked (take count from)) x
+
+pub completed-start : (named : Pairs) → ascending (map unpacked (numbers named)) ≡ true → Completed (named .pairs) (named .count) named 0
+unfolding namedOrFresh
+completed-start named o = record { most = omega arith; room = omega arith; ordered = o; work = λ x. refl }
+
+module _ (from : List ℕ) (count : ℕ) (all : Pairs) (i : ℕ) (c : Completed from count all i) where
+  pub completed-next : count ≤ length from → i < count → (name : ℕ) → name ≡ getD from i 0 / 65536
+      → (f : ℕ) → FreshOf (map unpacked (take count from)) name (unpacked f)
+      → (r : Pairs) → r .count ≤ all .count + 1 → numbers r ≡ carry f (numbers all) → Completed from count r (i + 1)
+  completed-next fits lt name is f h r few e = record {
+    most = omega arith;
+    room = omega (arith, c .room);
+    ordered = rw e (carry-ascending f (numbers all) (c .ordered));
+    work = λ x.
+        let l = take count from in
+        let ats = map unpacked l in
+        let inside : i < length l = omega (arith, length-take-le count from fits) in
+        let here : name ≡ getD l i 0 / 65536 = is ∙ ap (λ y. y / 65536) (sym (getD-take count from i 0 lt)) in
+        let own = eqb name (x .0) in
+        let held = holds (map unpacked (numbers all)) x in
+        let later = has (map unpacked (drop (i + 1) l)) (x .0) in
+        let free = smallest ats x in
+        let used : has ats name ≡ true = rw here (holds-has ats _ (entry-held l i inside)) in
+        let fresh : samePair (unpacked f) x ≡ (own && free) = fresh-only ats name (unpacked f) used h x in
+        let names : has (map unpacked (drop i l)) (x .0) ≡ (own || later) = rw (here, add-one, drop-cons l i 0 inside) in
+        ap (λ b. b || later && free) (ap (λ ns. holds (map unpacked ns) x) e ∙ (carry-holds f (numbers all) x ∙ ap (λ b. b || held) fresh))
+        ∙ (or-assoc (own && free) held (later && free)
+        ∙ (or-swap (own && free) held (later && free)
+        ∙ (ap (λ b. held || b) (sym (and-or-distrib-right own later free)) ∙ (ap (λ b. held || b && free) (sym names) ∙ c .work x))));
+  }
+
+  whole : count ≤ length from → count ≤ i → IsPairs (map unpacked (take count from)) (map unpacked (numbers all))
+  whole fits h =
+      let l : length (take count from) ≤ i = omega (arith, length-take-le count from fits) in
+      record {
+        ordered = c .ordered;
+        members = λ x. sym (or-false (holds (map unpacked (numbers all)) x)) ∙ (rw (drop-of-length-le (take count from) l) at (c .work x));
+      }
+
+pub completed-end : (named all : Pairs) (i : ℕ) → Completed (named .pairs) (named .count) all i → named .count ≤ length (named .pairs)
+    → named .count ≤ 127 → named .count ≤ i → AllOf named all
+completed-end named all i c fits few h = record {
+  right = λ ats n. record {
+    most = omega (arith, c .room, c .most);
+    pairs = pairs-same (map unpacked (numbers named)) ats (n .members) (whole (named .pairs) (named .count) all i c fits h);
+  };
+}

@@ -1,0 +1,90 @@
+-- `all_of` puts the fresh pair of each name to the named pairs.
+use Prim.Native.Nat.{_-_, _≤_}
+use mathlib.Core.Path.{_≡_, sym}
+use native.Mathlib.Omega.{arith}
+use borrow.Author.Needs.{needs}
+use lib.ListN.{length, take}
+use lib.Seq.{length-take-le}
+use Rattle.pairs.proofs.Complete.{Completed, completed-start, completed-next, completed-end}
+use Rattle.pairs.proofs.all_of.Statement.{statement}
+use Rattle.pairs.proofs.all_of.Tie as tie
+
+abbrev Inv-loop : tie.InvT-loop
+Inv-loop from count all₀ i₀ all i = Completed from count all i
+
+abbrev μ-loop : tie.MeasureT-loop
+μ-loop from count all₀ i₀ all i = count - i
+
+fits : (c : tie.Start Inv-loop μ-loop) → c .args .named .count ≤ length (c .args .named .pairs)
+fits c =
+    let l : length (c .args .named .pairs) ≡ 254 = search needs in
+    omega (arith, c .pre)
+
+front : (c : tie.Start Inv-loop μ-loop) → length (take (c .args .named .count) (c .args .named .pairs)) ≡ c .args .named .count
+front c = length-take-le _ _ (fits c)
+
+loop-holds : tie.Need-loop-holds Inv-loop μ-loop
+loop-holds c = completed-start _ (c .before .pre .1 .rises)
+
+mul-name-of : tie.Need-mul-name-of Inv-loop μ-loop
+mul-name-of c = search needs
+
+array-read-name-of : tie.Need-array-read-name-of Inv-loop μ-loop
+array-read-name-of c = omega (arith, c .before .before .before .pre)
+
+name-of-requires : tie.Need-name-of-requires Inv-loop μ-loop
+name-of-requires c κs = search needs
+
+array-share-prefix-from : tie.Need-array-share-prefix-from Inv-loop μ-loop
+array-share-prefix-from c = fits (c .before .before .before .before)
+
+slice-aggregate-fresh-of : tie.Need-slice-aggregate-fresh-of Inv-loop μ-loop
+slice-aggregate-fresh-of c = sym (front (c .before .before .before .before .before))
+
+fresh-of-requires : tie.Need-fresh-of-requires Inv-loop μ-loop
+fresh-of-requires c κs =
+    let s = c .before .before .before .before .before in
+    (c .before .name-of .ensures .1, omega (arith, front s, s .pre), s .pre .1)
+
+insert-requires : tie.Need-insert-requires Inv-loop μ-loop
+insert-requires c κs = omega (arith, c .before .before .before .before .before .before .pre, c .before .before .before .before .loop .inv)
+
+add-i : tie.Need-add-i Inv-loop μ-loop
+add-i c = search needs
+
+loop-less : tie.Need-loop-less Inv-loop μ-loop
+loop-less c = search needs
+
+loop-again : tie.Need-loop-again Inv-loop μ-loop
+loop-again c =
+    let l = c .before .before .before .before .before .loop in
+    let name = c .before .before .before .name-of in
+    let fresh = c .before .fresh-of in
+    let put = c .insert in
+    let s = c .before .before .before .before .before .before .before in
+    completed-next _ _ _ (l .i) (l .inv) (fits s) (search needs) (name .result) (name .ensures .0) (fresh .result) (fresh .ensures)
+    (put .result) (put .ensures .0) (put .ensures .1)
+
+returns : tie.Need-returns Inv-loop μ-loop
+returns c =
+    let s = c .before .before .before in
+    completed-end _ _ (c .before .loop .i) (c .before .loop .inv) (fits s) (s .pre .0) (search needs)
+
+pub all-of-spec : {M : Type 1} → statement M
+all-of-spec =
+    tie.close
+    (tie.spec
+    Inv-loop
+    μ-loop
+    loop-holds
+    mul-name-of
+    array-read-name-of
+    name-of-requires
+    array-share-prefix-from
+    slice-aggregate-fresh-of
+    fresh-of-requires
+    insert-requires
+    add-i
+    loop-less
+    loop-again
+    returns)

@@ -1,0 +1,187 @@
+// The pairs of a policy that was read, and the normal form of a request.
+ghost use mathlib.Core.Path.{_≡_};
+ghost use mathlib.Core.Bool.{true};
+ghost use mathlib.Core.List.{map};
+ghost use Prim.Native.Nat.{_+_, _/_, _≤_, _<_};
+ghost use lib.ListN.{length, drop};
+ghost use Rattle.ptacl.specs.Pairs.{unpacked, namedOrFresh, unnamed, normal};
+ghost use Rattle.files.specs.Memory.{over};
+ghost use Rattle.files.specs.Places.{Encoded};
+ghost use Rattle.evaluate.specs.Ordered.{Ordered};
+ghost use Rattle.pairs.specs.Lists.{numbers, carry, NamedOf, FreshOf, AllOf, NormalOf, PairsOf, NormalFormOf};
+use evaluate::order;
+
+// An ascending list of pairs, each name * 65536 + value.
+pub struct Pairs {
+    pub pairs: [u32; 254],
+    pub count: usize,
+}
+
+// Puts a pair into its place, once.
+fn insert(list: Pairs, pair: u32) -> Pairs
+    requires { ⌜ list .count < 254 ⌝ }
+    ensures { λ r. ⌜ (r .count ≤ list .count + 1) × (numbers r ≡ carry pair (numbers list)) ⌝ }
+{
+    let mut pairs = list.pairs;
+    let count = list.count;
+    let mut held = pair;
+    let mut i = 0;
+    while i < count {
+        let other = pairs[i];
+        if other == held {
+            return Pairs { pairs, count };
+        }
+        if held < other {
+            pairs[i] = held;
+            held = other;
+        }
+        i += 1;
+    }
+    pairs[count] = held;
+    Pairs {
+        pairs,
+        count: count + 1,
+    }
+}
+
+// The named pairs of the policy whose bytes these are.
+fn named_of(term: &[u8]) -> Pairs
+    requires { ⌜ Encoded (now term) ⌝ }
+    ensures { λ r. ⌜ NamedOf (now (term .entry)) r ⌝ }
+{
+    let mut named = Pairs {
+        pairs: [0u32; 254],
+        count: 0,
+    };
+    let mut at = 0;
+    while at < term.len() {
+        if term[at] == 0x10 {
+            named = insert(named, files::bytes::pair(term, at + 1));
+            at += 5;
+        } else {
+            at += 1;
+        }
+    }
+    named
+}
+
+// The fresh pair of a name: its values are tried from 0 on, each against the named pairs.
+fn fresh_of(named: &[u32], name: u32) -> u32
+    requires { ⌜ (name < 65536) × (length (now named) ≤ 127) × Ordered (now named) ⌝ }
+    ensures { λ r. ⌜ FreshOf (map unpacked (now (named .entry))) name (unpacked r) ⌝ }
+{
+    let first = name * 65536;
+    let mut value = 0;
+    while order::holds_pair(named, first + value) {
+        value += 1;
+    }
+    first + value
+}
+
+fn name_of(pair: u32) -> u32
+    ensures { λ r. ⌜ (r ≡ pair / 65536) × (r < 65536) ⌝ }
+{
+    pair / 65536
+}
+
+// The named pairs, and the fresh pair of each of their names.
+fn all_of(named: Pairs) -> Pairs
+    requires { ⌜ (named .count ≤ 127) × Ordered (numbers named) ⌝ }
+    ensures { λ r. ⌜ AllOf named r ⌝ }
+{
+    let from = named.pairs;
+    let count = named.count;
+    let mut all = named;
+    let mut i = 0;
+    while i < count {
+        let name = name_of(from[i]);
+        let fresh = fresh_of(&from[..count], name);
+        all = insert(all, fresh);
+        i += 1;
+    }
+    all
+}
+
+// Whether the request holds a value of the name that is not named.
+fn holds_unnamed(named: &[u32], request: &[u32], name: u32) -> bool
+    requires { ⌜ Ordered (now named) ⌝ }
+    ensures { λ r. ⌜ r ≡ unnamed (map unpacked (now (named .entry))) (map unpacked (now (request .entry))) name ⌝ }
+{
+    let mut i = 0;
+    while i < request.len() {
+        let pair = request[i];
+        if pair / 65536 == name {
+            if !order::holds_pair(named, pair) {
+                return true;
+            }
+        }
+        i += 1;
+    }
+    false
+}
+
+// Whether one of the policy's pairs is in the normal form.
+fn is_kept(named: &[u32], request: &[u32], pair: u32) -> bool
+    requires { ⌜ Ordered (now named) × Ordered (now request) × (namedOrFresh (map unpacked (now named)) (unpacked pair) ≡ true) ⌝ }
+    ensures { λ r. ⌜ r ≡ normal (map unpacked (now (named .entry))) (map unpacked (now (request .entry))) (unpacked pair) ⌝ }
+{
+    if order::holds_pair(named, pair) {
+        return order::holds_pair(request, pair);
+    }
+    holds_unnamed(named, request, pair / 65536)
+}
+
+// The normal form of a request.
+fn normal_of(named: Pairs, request: &[u32]) -> Pairs
+    requires { ⌜ (named .count ≤ 127) × Ordered (numbers named) × Ordered (now request) ⌝ }
+    ensures { λ r. ⌜ NormalOf named (map unpacked (now (request .entry))) r ⌝ }
+{
+    let from = named.pairs;
+    let n = named.count;
+    let all = all_of(named);
+    let pairs = all.pairs;
+    let count = all.count;
+    let mut kept = [0u32; 254];
+    let mut k = 0;
+    let mut i = 0;
+    while i < count {
+        let pair = pairs[i];
+        if is_kept(&from[..n], request, pair) {
+            kept[k] = pair;
+            k += 1;
+        }
+        i += 1;
+    }
+    Pairs {
+        pairs: kept,
+        count: k,
+    }
+}
+
+// The pairs of a policy that was read.
+pub fn pairs_of(file: &[u8]) -> Pairs
+    requires { ⌜ (3 ≤ length (now file)) × Encoded (drop 3 (now file)) ⌝ }
+    ensures { λ r. ⌜ PairsOf (drop 3 (now (file .entry))) r ⌝ }
+{
+    all_of(named_of(&file[3..]))
+}
+
+// The normal form of a request for a policy that was read.
+pub fn normal_form_of(file: &[u8], request: &[u32]) -> Pairs
+    requires { ⌜ (3 ≤ length (now file)) × Encoded (drop 3 (now file)) × Ordered (now request) ⌝ }
+    ensures { λ r. ⌜ NormalFormOf (drop 3 (now (file .entry))) (map unpacked (now (request .entry))) r ⌝ }
+{
+    normal_of(named_of(&file[3..]), request)
+}
+
+// Copies numbers to the front of a lent slice.
+pub fn copy(from: &[u32], to: &mut [u32])
+    requires { ⌜ length (now from) ≤ length (now to) ⌝ }
+    ensures { λ _. ⌜ now (to .exit) ≡ over (now (from .entry)) (now (to .entry)) ⌝ }
+{
+    let mut i = 0;
+    while i < from.len() {
+        to[i] = from[i];
+        i += 1;
+    }
+}

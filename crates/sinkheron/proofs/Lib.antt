@@ -1,0 +1,5 @@
+pub mod Taken
+pub mod Written
+pub mod DecideOne
+pub mod ListPairsOne
+pub mod NormalFormOne

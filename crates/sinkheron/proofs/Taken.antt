@@ -1,0 +1,97 @@
+-- What an operation knows of its files once they were accepted: the policy and the request that they hold.
+use Prim.Native.Nat.{ℕ, _≤_}
+use mathlib.Core.Path.{_≡_, refl, ap, _∙_}
+use mathlib.Core.Bool.{Bool, true, false}
+use mathlib.Core.List.{List, map}
+use native.Mathlib.Omega.{arith}
+use mir.Syntax.{w8}
+use mir.Val.{Fits}
+use lib.ListN.{length, getD, take, drop}
+use Rattle.ptacl.specs.Values.{Values, isEmpty, code}
+use Rattle.ptacl.specs.Request.{Request}
+use Rattle.ptacl.specs.Term.{policy, Policy}
+use Rattle.ptacl.specs.Pairs.{packed, unpacked}
+use Rattle.files.specs.Encoding.{enc, framed, policyFile, Bytes, IsPolicy, IsRequest}
+use Rattle.files.specs.ReadPolicy.{readPolicy}
+use Rattle.files.specs.ReadRequest.{readRequest}
+use Rattle.files.specs.Places.{At, Has, Encoded}
+use Rattle.files.specs.Cases.{policyRead, RequestAs}
+use Rattle.files.specs.declared.policy.PolicyRead.{PolicyRead}
+use Rattle.files.specs.declared.request.RequestRead.{RequestRead}
+use Rattle.files.proofs.Framing.{lent-bytes}
+use Rattle.files.proofs.PolicyExact.{policy-exact}
+use Rattle.files.proofs.RequestExact.{request-exact, request-held}
+use Rattle.files.proofs.Numbers.{map-unpacked-packed}
+use Rattle.files.proofs.View.{policy-accepted, policy-at, policy-has}
+use Rattle.evaluate.specs.Ordered.{Ordered}
+
+-- ---- the policy
+
+pub record Taken (s : List ℕ) : Type 0 where
+  pub term : Policy
+  pub file : IsPolicy s term
+  pub here : At s 3 (enc term)
+  pub has : Has policy s 3 255
+  pub long : 3 ≤ length s
+  pub body : drop 3 s ≡ enc term
+
+pub policy-taken : {s : List ℕ} → ((i : ℕ) → Fits w8 (getD s i 0)) → policyRead (readPolicy s) ≡ PolicyRead.Accepted → Taken s
+unfolding policyFile framed
+policy-taken {s} b e =
+    let bs = lent-bytes b in
+    let a = policy-accepted s e in
+    let i = policy-exact s bs (a .0) .0 (a .1) in
+    record {
+      term = a .0;
+      file = i;
+      here = policy-at (a .1) bs;
+      has = policy-has (a .1) bs;
+      long = omega (arith, ap length (i .file));
+      body = ap (drop 3) (i .file);
+    }
+
+pub encoded : {s : List ℕ} → Taken s → Encoded (drop 3 s)
+encoded t = record { term = t .term; bytes = t .body; few = t .file .fits .few }
+
+-- ---- the request
+
+pub record Sent (s : List ℕ) (r : RequestRead) : Type 0 where
+  pub request : Request
+  pub file : IsRequest s request
+  pub few : r .count ≤ 256
+  pub pairs : map unpacked (take (r .count) (r .pairs)) ≡ request
+
+pub request-sent : {s : List ℕ} {r : RequestRead} → ((i : ℕ) → Fits w8 (getD s i 0)) → RequestAs r (readRequest s) → r .number ≡ 0 → Sent s r
+request-sent {s} {r} b h z =
+    let k = request-held s r h (lent-bytes b) z in
+    record {
+      request = k .request;
+      file = request-exact s (lent-bytes b) (k .request) .0 (k .read);
+      few = k .few;
+      pairs = ap (map unpacked) (k .pairs) ∙ map-unpacked-packed (k .request) (k .fits .range);
+    }
+
+pub ordered : {s : List ℕ} {r : RequestRead} → Sent s r → Ordered (take (r .count) (r .pairs))
+ordered q = record { rises = rw (q .pairs) (q .file .fits .ordered) }
+
+-- ---- the set
+
+pub code-empty : (s : Values) → code s ≡ 0 → isEmpty s ≡ true
+unfolding isEmpty
+code-empty s e = go (s .has1) (s .has0) (s .hasU) e
+  where
+    go : (a b c : Bool) → code (record { has1 = a; has0 = b; hasU = c }) ≡ 0 → isEmpty (record { has1 = a; has0 = b; hasU = c }) ≡ true
+    go true b c e = absurd (omega arith)
+    go false true c e = absurd (omega arith)
+    go false false true e = absurd (omega arith)
+    go false false false e = refl
+
+pub code-some : (s : Values) → (code s ≡ 0 → ⊥) → isEmpty s ≡ false
+unfolding isEmpty
+code-some s n = go (s .has1) (s .has0) (s .hasU) n
+  where
+    go : (a b c : Bool) → (code (record { has1 = a; has0 = b; hasU = c }) ≡ 0 → ⊥) → isEmpty (record { has1 = a; has0 = b; hasU = c }) ≡ false
+    go true b c e = refl
+    go false true c e = refl
+    go false false true e = refl
+    go false false false e = absurd (e refl)

@@ -1,0 +1,89 @@
+-- `list_pairs` meets its promise.
+use borrow.Author.Needs.{needs}
+use Prim.Native.Nat.{_≤_}
+use mathlib.Core.Path.{_≡_, sym, _∙_}
+use native.Mathlib.Omega.{arith}
+use lib.ListN.{length}
+use Rattle.ptacl.specs.Term.{atoms}
+use Rattle.ptacl.specs.Pairs.{IsPairs}
+use Rattle.files.proofs.View.{policy-refused}
+use Rattle.pairs.proofs.Callers.{Listed, pairs-listed}
+use Rattle.sinkheron.specs.ListPairs.{policy-refused as refusal, too-small}
+use Rattle.sinkheron.proofs.Taken.{Taken, policy-taken, encoded}
+use Rattle.sinkheron.proofs.Written.{list-written}
+use Rattle.sinkheron.proofs.list_pairs.Statement.{statement}
+use Rattle.sinkheron.proofs.list_pairs.Tie as tie
+use Rattle.sinkheron.proofs.list_pairs.Reads as reads
+use Rattle.sinkheron.proofs.list_pairs.Lts as lts
+use Rattle.files.proofs.policy.read_policy.Reads as read-policy-reads
+use Rattle.pairs.proofs.copy.Reads as copy-reads
+use Rattle.pairs.proofs.pairs_of.Reads as pairs-of-reads
+
+abbrev cs : lts.Claims
+cs = (read-policy-reads.Asked, read-policy-reads.Learnt, pairs-of-reads.Asked, pairs-of-reads.Learnt, copy-reads.Asked, copy-reads.Learnt)
+
+-- the policy, once its file is accepted, and its pairs
+its-policy : (c : lts.After-enum-told cs reads.Pre reads.Post) → Taken (c .before .before .before .before .before .args .policy .now)
+its-policy c =
+    policy-taken (c .before .before .before .before .shared-slice-known .given) (sym (c .before .before .read-policy .ensures) ∙ c .enum-told .given .1)
+
+its-pairs : (c : lts.After-pairs-of cs reads.Pre reads.Post) → Listed (IsPairs (atoms (its-policy (c .before) .term))) (c .pairs-of .result)
+its-pairs c = pairs-listed (its-policy (c .before) .term) (its-policy (c .before) .body) _ (search needs) (c .pairs-of .ensures)
+
+fits : (c : lts.After-pairs-of cs reads.Pre reads.Post) → c .pairs-of .result .count ≤ length (c .pairs-of .result .pairs)
+fits c =
+    let l : length (c .pairs-of .result .pairs) ≡ 254 = search needs in
+    omega (arith, c .pairs-of .ensures .right (its-policy (c .before) .term) (its-policy (c .before) .body) .most)
+
+read-policy-requires : tie.Need-read-policy-requires
+read-policy-requires c κs = search needs
+
+enum-known-number : tie.Need-enum-known-number
+enum-known-number c = search needs
+
+returns : tie.Need-returns
+returns c = refusal (policy-refused _ (sym (c .before .before .before .read-policy .ensures) ∙ c .before .number .given .1))
+
+enum-told : tie.Need-enum-told
+enum-told c = search needs
+
+pairs-of-requires : tie.Need-pairs-of-requires
+pairs-of-requires c κs = (its-policy c .long, encoded (its-policy c))
+
+returns-2 : tie.Need-returns-2
+returns-2 c =
+    let l = its-pairs (c .before .before) in
+    too-small (its-policy (c .before .before .before) .file) (l .right) (omega (arith, l .size, c .if1 .taken))
+
+array-share-prefix-list : tie.Need-array-share-prefix-list
+array-share-prefix-list c = fits (c .before .before)
+
+slice-aggregate-copy : tie.Need-slice-aggregate-copy
+slice-aggregate-copy c = sym (its-pairs (c .before .before .before) .front)
+
+copy-requires : tie.Need-copy-requires
+copy-requires c κs = omega (arith, its-pairs (c .before .before .before .before) .front, c .before .before .if1 .left)
+
+same-length : tie.Need-same-length
+same-length c = search needs
+
+returns-3 : tie.Need-returns-3
+returns-3 c =
+    list-written (its-policy (c .before .before .before .before .before .before .before .before) .file) _
+    (its-pairs (c .before .before .before .before .before .before .before)) (c .before .before .before .before .before .if1 .left) (c .before .before .copy .ensures)
+
+pub list-pairs-spec : {M : Type 1} → statement M
+list-pairs-spec =
+    tie.close
+    (tie.spec
+    read-policy-requires
+    enum-known-number
+    returns
+    enum-told
+    pairs-of-requires
+    returns-2
+    array-share-prefix-list
+    slice-aggregate-copy
+    copy-requires
+    same-length
+    returns-3)
