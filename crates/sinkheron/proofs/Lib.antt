@@ -3,3 +3,5 @@ pub mod Written
 pub mod DecideOne
 pub mod ListPairsOne
 pub mod NormalFormOne
+pub mod CertifyOne
+pub mod SearchOne

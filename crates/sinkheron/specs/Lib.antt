@@ -1,3 +1,5 @@
 pub mod Decide
 pub mod ListPairs
 pub mod NormalForm
+pub mod Certify
+pub mod Search

@@ -4,8 +4,11 @@ ghost use mathlib.Core.Path.{_≡_};
 ghost use Rattle.sinkheron.specs.Decide as D;
 ghost use Rattle.sinkheron.specs.ListPairs as L;
 ghost use Rattle.sinkheron.specs.NormalForm as N;
+ghost use Rattle.sinkheron.specs.Certify as C;
+ghost use Rattle.sinkheron.specs.Search as S;
 use files::policy::PolicyRead;
 use ptacl::DecisionSet;
+use search::Verdict;
 
 pub enum Decision {
     Refused { number: u8, place: usize },
@@ -20,6 +23,27 @@ pub enum Listing {
 pub enum Normalised {
     Refused { number: u8, place: usize },
     Written { bytes: usize },
+}
+
+pub enum Certified {
+    Refused { number: u8, place: usize },
+    By { rule: u8 },
+}
+
+pub enum Searched {
+    Refused {
+        number: u8,
+        place: usize,
+    },
+    Resistant {
+        pairs: usize,
+    },
+    Exposed {
+        pairs: usize,
+        m: usize,
+        i: usize,
+        bytes: usize,
+    },
 }
 
 // What the policy comes to for the request. Only allow alone, the set's code 1, releases.
@@ -98,4 +122,50 @@ pub fn normal_form(policy: &[u8], request: &[u8], space: &mut [u8]) -> Normalise
     }
     let bytes = files::write::write_request(&list[..count], space);
     Normalised::Written { bytes }
+}
+
+// The smallest number of a structural rule that applies to the policy, or 0.
+pub fn certify(policy: &[u8]) -> Certified
+    ensures { λ r. ⌜ C.Certifies (now (policy .entry)) (C.paperOf r) ⌝ }
+{
+    if let PolicyRead::Refused { number, place } = files::policy::read_policy(policy) {
+        return Certified::Refused { number, place };
+    }
+    let certificate = certify::certificate_at(policy, 3, 255);
+    Certified::By {
+        rule: certificate.number,
+    }
+}
+
+// The first exposure of a policy of at most 16 pairs, its two request files at the front of `space`; or that it is resistant.
+pub fn search(policy: &[u8], space: &mut [u8]) -> Searched
+    ensures { λ r. ⌜ S.Searches (now (policy .entry)) (now (space .entry)) (S.paperOf r) (now (space .exit)) ⌝ }
+{
+    if let PolicyRead::Refused { number, place } = files::policy::read_policy(policy) {
+        return Searched::Refused { number, place };
+    }
+    let all = pairs::pairs_of(policy);
+    let list = all.pairs;
+    let count = all.count;
+    if 16 < count {
+        return Searched::Refused {
+            number: 12,
+            place: 0,
+        };
+    }
+    if space.len() < 130 {
+        return Searched::Refused {
+            number: 13,
+            place: 0,
+        };
+    }
+    match search::search(policy, &list[..count], space) {
+        Verdict::Resistant => Searched::Resistant { pairs: count },
+        Verdict::Exposed { m, i, bytes } => Searched::Exposed {
+            pairs: count,
+            m,
+            i,
+            bytes,
+        },
+    }
 }

@@ -1,0 +1,185 @@
+-- What the answers of the parts make of the whole: one law for each node, and for each way to a certificate.
+use Prim.Native.Nat.{ℕ, zero, suc, _+_, _-_, _≤_}
+use mathlib.Core.Path.{_≡_, refl, sym, ap, ap₂, subst, _∙_}
+use mathlib.Core.Bool.{Bool, true, false, cond}
+use mathlib.Core.List.{List}
+use native.Mathlib.Omega.{arith}
+use lib.Dec.{eqb}
+use lib.ListN.{length, getD, take, drop, length-append, length-drop}
+use lib.Seq.{take-at}
+use borrow.Author.Tests.{eq-eqb, ne-eqb}
+use Rattle.ptacl.specs.Term.{Sort, target, policy, Target, Policy, deny, allow, targeted, not, default, and, without}
+use Rattle.ptacl.specs.Term.{Node, anAtom, aDeny, anAllow, aTargeted, aNot, aDefault, anAnd, tagOf}
+use Rattle.ptacl.specs.Rules.{allows, never, rule2, rule3, rule4, base, given, certificate, Certificate}
+use Rattle.ptacl.proofs.Cert.{certificate-is}
+use Rattle.files.specs.Encoding.{enc}
+use Rattle.files.specs.Places.{At, Has}
+use Rattle.files.proofs.View.{View, deny-at, allow-at, targeted-at, not-at, default-at, and-at, view}
+use Rattle.files.proofs.View.{has-room, Inner, a-not, a-default, an-and}
+use Rattle.files.proofs.View.{as-deny, as-allow, as-targeted, as-not, as-default, as-and}
+use Rattle.files.proofs.View.{ends-atom, ends-deny, ends-allow, ends-targeted, ends-not, ends-default, ends-and}
+use Rattle.certify.specs.Judged.{Behind, Judged, PolicyBytes, Lacks, NodeRule}
+
+module _ {b : List ℕ} {i : ℕ} where
+  -- the place behind a term
+  pub behind-atom : getD b i 0 ≡ tagOf anAtom → Behind target b i (i + 5)
+  behind-atom e = record { past = ends-atom e }
+
+  pub behind-one : {s : Sort} {m : ℕ} → Inner s (getD b i 0) → (getD b i 0 ≡ tagOf (anAnd s) → ⊥) → Behind s b (i + 1) m → Behind s b i m
+  behind-one (a-not e) n d = record { past = ends-not e (d .past) }
+  behind-one (a-default e) n d = record { past = ends-default e (d .past) }
+  behind-one (an-and e) n d = absurd (n e)
+
+  pub behind-and : {s : Sort} {m n : ℕ} → getD b i 0 ≡ tagOf (anAnd s) → Behind s b (i + 1) m → Behind s b m n → Behind s b i n
+  behind-and e d f = record { past = ends-and e (d .past) (f .past) }
+
+  -- a judgement of a policy, by any judgement of the policies below it
+  module _ {A : Type 0} {judge : Policy → A} {answer : A} where
+    pub judged-deny : getD b i 0 ≡ tagOf aDeny → answer ≡ judge deny → Judged judge b i answer (i + 1)
+    judged-deny e f = record { right = as-deny _ e f; behind = record { past = ends-deny e } }
+
+    pub judged-allow : getD b i 0 ≡ tagOf anAllow → answer ≡ judge allow → Judged judge b i answer (i + 1)
+    judged-allow e f = record { right = as-allow _ e f; behind = record { past = ends-allow e } }
+
+    module _ {B : Type 0} {part : Policy → B} {first : B} {m : ℕ} where
+      pub judged-targeted : {n : ℕ} → getD b i 0 ≡ tagOf aTargeted → Behind target b (i + 1) n → Judged part b n first m
+          → ((t : Target) (p : Policy) → first ≡ part p → answer ≡ judge (targeted t p)) → Judged judge b i answer m
+      judged-targeted e d j f = record {
+        right = as-targeted _ e (d .past) (λ t p h g. f t p (j .right p g));
+        behind = record { past = ends-targeted e (d .past) (j .behind .past) };
+      }
+
+      pub judged-not : getD b i 0 ≡ tagOf (aNot policy) → Judged part b (i + 1) first m
+          → ((p : Policy) → first ≡ part p → answer ≡ judge (not p)) → Judged judge b i answer m
+      judged-not e j f = record {
+        right = as-not _ e (λ p h. f p (j .right p h));
+        behind = record { past = ends-not e (j .behind .past) };
+      }
+
+      pub judged-default : getD b i 0 ≡ tagOf (aDefault policy) → Judged part b (i + 1) first m
+          → ((p : Policy) → first ≡ part p → answer ≡ judge (default p)) → Judged judge b i answer m
+      judged-default e j f = record {
+        right = as-default _ e (λ p h. f p (j .right p h));
+        behind = record { past = ends-default e (j .behind .past) };
+      }
+
+      pub judged-and : {second : B} {n : ℕ} → getD b i 0 ≡ tagOf (anAnd policy) → Judged part b (i + 1) first m → Judged part b m second n
+          → ((p r : Policy) → first ≡ part p → second ≡ part r → answer ≡ judge (and p r)) → Judged judge b i answer n
+      judged-and e j k f = record {
+        right = as-and _ e (j .behind .past) (λ p r h g. f p r (j .right p h) (k .right r g));
+        behind = record { past = ends-and e (j .behind .past) (k .behind .past) };
+      }
+
+-- the rules 2, 3 and 4 by the nodes
+module _ {b : List ℕ} where
+  tells : {s : Sort} (k : Node s) {answer : Bool} → Lacks b (tagOf k) answer → (p : Policy) → b ≡ enc p → without k p ≡ answer
+  tells k l p e = sym (l .right p e k refl)
+
+  pub rule-2 : Lacks b (tagOf aTargeted) true → NodeRule b 2
+  rule-2 w = record { right = λ p e. simp (tells aTargeted w p e) }
+
+  module _ (w : Lacks b (tagOf aTargeted) false) where
+    pub not-plain : Lacks b (tagOf (aNot target)) false → NodeRule b 0
+    not-plain x = record { right = λ p e. simp (tells aTargeted w p e, tells (aNot target) x p e) }
+
+    module _ (x : Lacks b (tagOf (aNot target)) true) where
+      pub rule-3 : Lacks b (tagOf (aDefault policy)) true → NodeRule b 3
+      rule-3 y = record { right = λ p e. simp (tells aTargeted w p e, tells (aNot target) x p e, tells (aDefault policy) y p e) }
+
+      pub rule-4 : {answer : Bool} → Lacks b (tagOf (aDefault policy)) false → Lacks b (tagOf (aNot policy)) answer
+          → NodeRule b (cond answer 4 0)
+      rule-4 y z = record {
+        right = λ p e. simp (tells aTargeted w p e, tells (aNot target) x p e, tells (aDefault policy) y p e, tells (aNot policy) z p e);
+      }
+
+-- the number of a rule, where the body has a certificate
+pub given-some : (n : ℕ) {rule : ℕ} → (n ≡ 0 → ⊥) → rule ≡ given n rule
+given-some zero h = absurd (h refl)
+given-some (suc n) h = refl
+
+-- where none of the rules 1 to 4 applies, the number by the policies below
+abbrev first : Bool → Bool → Bool → Bool → ℕ → ℕ
+first a b c d k = cond a 1 (cond b 2 (cond c 3 (cond d 4 k)))
+
+base-else : (p : Policy) (k : ℕ) → base p k ≡ cond (eqb (base p 0) 0) k (base p 0)
+base-else p k = go (never p allows) (rule2 p) (rule3 p) (rule4 p)
+  where
+    go : (a b c d : Bool) → first a b c d k ≡ cond (eqb (first a b c d 0) 0) k (first a b c d 0)
+    go true b c d = refl
+    go false true c d = refl
+    go false false true d = refl
+    go false false false true = refl
+    go false false false false = refl
+
+abbrev below : Policy → ℕ
+below deny = 0
+below allow = 0
+below (targeted t p) = 0
+below (not p) = 0
+below (default p) = given (certificate p) 5
+below (and p r) = given (certificate p) (given (certificate r) 6)
+
+certificate-else : (p : Policy) → certificate p ≡ cond (eqb (base p 0) 0) (below p) (base p 0)
+certificate-else deny = base-else deny 0
+certificate-else allow = base-else allow 0
+certificate-else (targeted t p) = base-else (targeted t p) 0
+certificate-else (not p) = base-else (not p) 0
+certificate-else (default p) = base-else (default p) (below (default p))
+certificate-else (and p r) = base-else (and p r) (below (and p r))
+
+module _ {b : List ℕ} {i n : ℕ} where
+  -- the policy's own part of the bytes
+  pub inside : {left : ℕ} → Has policy b i left → Behind policy b i n → (i ≤ n) × (n ≤ length b)
+  inside h d = omega (arith, d .past (h .term) (h .here), has-room h, simp (length-drop, length-append) at (ap length (h .here .split)))
+
+  part-is : Behind policy b i n → (p : Policy) → At b i (enc p) → take (n - i) (drop i b) ≡ enc p
+  part-is d p h = rw (h .split) (take-at (enc p) (h .rest) (n - i) (omega (arith, d .past p h)))
+
+  pub part : {left : ℕ} → Has policy b i left → Behind policy b i n → PolicyBytes (take (n - i) (drop i b))
+  part h d = record { term = h .term; bytes = part-is d (h .term) (h .here) }
+
+  -- rule 1, and the rules 2 to 4 where it does not apply
+  pub base-first : Judged (λ p. never p allows) b i true n → Judged (λ p. base p 0) b i 1 n
+  base-first j = record { right = λ p h. rw (← j .right p h); behind = j .behind }
+
+  pub base-others : {answer : ℕ} → Judged (λ p. never p allows) b i false n → NodeRule (take (n - i) (drop i b)) answer
+      → Judged (λ p. base p 0) b i answer n
+  base-others j r = record { right = λ p h. rw (← j .right p h) (r .right p (part-is (j .behind) p h)); behind = j .behind }
+
+  -- a certificate by the rules 1 to 4, or else by the policies below
+  module _ {answer : ℕ} (j : Judged (λ p. base p 0) b i answer n) where
+    pub certified-here : (answer ≡ 0 → ⊥) → Judged certificate b i answer n
+    certified-here z = record { right = λ p h. rw (certificate-else p, ← j .right p h, ne-eqb answer 0 z); behind = j .behind }
+
+    module _ (z : answer ≡ 0) where
+      by-parts : {number m : ℕ} → Judged below b i number m → Judged certificate b i number m
+      by-parts k = record {
+        right = λ p h. rw (certificate-else p, ← j .right p h, eq-eqb answer 0 z) (k .right p h);
+        behind = k .behind;
+      }
+
+      pub certified-default : {body number m : ℕ} → getD b i 0 ≡ tagOf (aDefault policy) → Judged certificate b (i + 1) body m
+          → number ≡ given body 5 → Judged certificate b i number m
+      certified-default e k f = by-parts (judged-default e k (λ p h. f ∙ ap (λ x. given x 5) h))
+
+      pub certified-and : {first second inner number l m : ℕ} → getD b i 0 ≡ tagOf (anAnd policy)
+          → Judged certificate b (i + 1) first l → Judged certificate b l second m
+          → inner ≡ given second 6 → number ≡ given first inner → Judged certificate b i number m
+      certified-and {first = first} e k l f g =
+          by-parts (judged-and e k l (λ p r h w. g ∙ ap (given first) f ∙ ap₂ (λ x y. given x (given y 6)) h w))
+
+      pub certified-none : (getD b i 0 ≡ tagOf (aDefault policy) → ⊥) → (getD b i 0 ≡ tagOf (anAnd policy) → ⊥)
+          → Judged certificate b i answer n
+      certified-none d a = by-parts (record { right = λ p h. z ∙ go (view p h) d a; behind = j .behind })
+        where
+          go : {p : Policy} {k : ℕ} → View b i policy p k → (k ≡ tagOf (aDefault policy) → ⊥) → (k ≡ tagOf (anAnd policy) → ⊥) → 0 ≡ below p
+          go deny-at d a = refl
+          go allow-at d a = refl
+          go (targeted-at h g) d a = refl
+          go (not-at h) d a = refl
+          go (default-at h) d a = absurd (d refl)
+          go (and-at h g) d a = absurd (a refl)
+
+-- for the caller: the number is that of the policy's certificate
+pub certified : {b : List ℕ} {i n next : ℕ} {p : Policy} → Judged certificate b i n next → At b i (enc p) → Certificate p n
+certified {p = p} j h = subst (Certificate p) (sym (j .right p h)) (certificate-is p)

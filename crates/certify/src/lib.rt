@@ -1,0 +1,202 @@
+// Certificates by structure, for a policy that was read.
+ghost use mathlib.Core.Path.{_≡_};
+ghost use Rattle.ptacl.specs.Term.{target, policy};
+ghost use Rattle.ptacl.specs.Rules.{allows, denies, never, base, given, certificate};
+ghost use Rattle.files.specs.Places.{Has};
+ghost use Rattle.certify.specs.Judged.{Behind, Judged, PolicyBytes, Lacks, NodeRule};
+
+// Whether a policy has a property, and the place behind it.
+pub struct Verdict {
+    pub holds: bool,
+    pub next: usize,
+}
+
+// A certificate's number, 0 where there is none, and the place behind the policy.
+pub struct Certificate {
+    pub number: u8,
+    pub next: usize,
+}
+
+// The place behind the target at `at`, of at most `left` nodes.
+fn skip_target(file: &[u8], at: usize, left: usize) -> usize
+    requires { ⌜ Has target (now file) at left ⌝ }
+    ensures { λ r. ⌜ Behind target (now (file .entry)) at r ⌝ }
+{
+    let tag = file[at];
+    if tag == 0x10 {
+        return at + 5;
+    }
+    let next = skip_target(file, at + 1, left - 1);
+    if tag == 0x13 {
+        return skip_target(file, next, left - 1);
+    }
+    next
+}
+
+// Whether the policy at `at`, with at most `left` nodes, never allows. Nodes below fall at each call.
+fn never_allows(file: &[u8], at: usize, left: usize) -> Verdict
+    requires { ⌜ Has policy (now file) at left ⌝ }
+    ensures { λ r. ⌜ Judged (λ p. never p allows) (now (file .entry)) at (r .holds) (r .next) ⌝ }
+{
+    match file[at] {
+        0x20 => Verdict {
+            holds: true,
+            next: at + 1,
+        },
+        0x21 => Verdict {
+            holds: false,
+            next: at + 1,
+        },
+        0x22 => {
+            let body = skip_target(file, at + 1, left - 1);
+            never_allows(file, body, left - 1)
+        }
+        0x23 => never_denies(file, at + 1, left - 1),
+        0x24 => never_allows(file, at + 1, left - 1),
+        _ => {
+            let first = never_allows(file, at + 1, left - 1);
+            let middle = first.next;
+            let second = never_allows(file, middle, left - 1);
+            if first.holds {
+                return Verdict {
+                    holds: true,
+                    next: second.next,
+                };
+            }
+            second
+        }
+    }
+}
+
+// Whether it never denies.
+fn never_denies(file: &[u8], at: usize, left: usize) -> Verdict
+    requires { ⌜ Has policy (now file) at left ⌝ }
+    ensures { λ r. ⌜ Judged (λ p. never p denies) (now (file .entry)) at (r .holds) (r .next) ⌝ }
+{
+    match file[at] {
+        0x20 => Verdict {
+            holds: false,
+            next: at + 1,
+        },
+        0x21 => Verdict {
+            holds: true,
+            next: at + 1,
+        },
+        0x22 => {
+            let body = skip_target(file, at + 1, left - 1);
+            never_denies(file, body, left - 1)
+        }
+        0x23 => never_allows(file, at + 1, left - 1),
+        0x24 => {
+            let body = never_denies(file, at + 1, left - 1);
+            Verdict {
+                holds: false, // what is undefined comes to deny
+                next: body.next,
+            }
+        }
+        _ => {
+            let first = never_denies(file, at + 1, left - 1);
+            let middle = first.next;
+            let second = never_denies(file, middle, left - 1);
+            if first.holds {
+                return second;
+            }
+            Verdict {
+                holds: false,
+                next: second.next,
+            }
+        }
+    }
+}
+
+// Whether the term whose bytes these are has no node of that tag.
+fn lacks(term: &[u8], tag: u8) -> bool
+    requires { ⌜ PolicyBytes (now term) ⌝ }
+    ensures { λ r. ⌜ Lacks (now (term .entry)) tag r ⌝ }
+{
+    let mut at = 0;
+    while at < term.len() {
+        if term[at] == tag {
+            return false;
+        }
+        if term[at] == 0x10 {
+            at += 5;
+        } else {
+            at += 1;
+        }
+    }
+    true
+}
+
+// The first of the rules 2, 3 and 4 that applies to the policy whose bytes these are, else 0.
+fn by_nodes(term: &[u8]) -> u8
+    requires { ⌜ PolicyBytes (now term) ⌝ }
+    ensures { λ r. ⌜ NodeRule (now (term .entry)) r ⌝ }
+{
+    if lacks(term, 0x22) {
+        return 2;
+    }
+    if !lacks(term, 0x11) {
+        return 0;
+    }
+    if lacks(term, 0x24) {
+        return 3;
+    }
+    if lacks(term, 0x23) {
+        return 4;
+    }
+    0
+}
+
+// The first of the rules 1 to 4 that applies to the policy at `at`, else 0.
+fn base_rule(file: &[u8], at: usize, left: usize) -> Certificate
+    requires { ⌜ Has policy (now file) at left ⌝ }
+    ensures { λ r. ⌜ Judged (λ p. base p 0) (now (file .entry)) at (r .number) (r .next) ⌝ }
+{
+    let allows = never_allows(file, at, left);
+    let next = allows.next;
+    if allows.holds {
+        return Certificate { number: 1, next };
+    }
+    Certificate {
+        number: by_nodes(&file[at..next]),
+        next,
+    }
+}
+
+// The rule's number, given a certificate of the body.
+fn given(body: u8, rule: u8) -> u8
+    ensures { λ r. ⌜ r ≡ given body rule ⌝ }
+{
+    if body == 0 { 0 } else { rule }
+}
+
+// The certificate of the policy at `at`, of at most `left` nodes.
+pub fn certificate_at(file: &[u8], at: usize, left: usize) -> Certificate
+    requires { ⌜ Has policy (now file) at left ⌝ }
+    ensures { λ r. ⌜ Judged certificate (now (file .entry)) at (r .number) (r .next) ⌝ }
+{
+    let here = base_rule(file, at, left);
+    if here.number != 0 {
+        return here;
+    }
+    match file[at] {
+        0x24 => {
+            let body = certificate_at(file, at + 1, left - 1);
+            Certificate {
+                number: given(body.number, 5),
+                next: body.next,
+            }
+        }
+        0x25 => {
+            let first = certificate_at(file, at + 1, left - 1);
+            let middle = first.next;
+            let second = certificate_at(file, middle, left - 1);
+            Certificate {
+                number: given(first.number, given(second.number, 6)),
+                next: second.next,
+            }
+        }
+        _ => here,
+    }
+}

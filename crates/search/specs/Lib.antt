@@ -1,0 +1,2 @@
+pub mod Hits
+pub mod Found

@@ -1,0 +1,119 @@
+-- `search` meets its promise.
+use borrow.Author.Needs.{needs}
+use Prim.Native.Nat.{_≤_}
+use mathlib.Core.Path.{_≡_, sym, _∙_}
+use native.Mathlib.Omega.{arith}
+use lib.ListN.{length}
+use Rattle.ptacl.specs.Term.{atoms}
+use Rattle.ptacl.specs.Pairs.{IsPairs}
+use Rattle.files.proofs.View.{policy-refused}
+use Rattle.pairs.proofs.Callers.{Listed, pairs-listed}
+use Rattle.sinkheron.specs.Search.{Searches, policy-refused as refusal, too-many, too-small}
+use Rattle.sinkheron.proofs.Taken.{Taken, policy-taken, encoded}
+use Rattle.sinkheron.proofs.Written.{answer, searched}
+use Rattle.sinkheron.proofs.search.Statement.{statement}
+use Rattle.sinkheron.proofs.search.Tie as tie
+use Rattle.sinkheron.proofs.search.Reads as reads
+use Rattle.sinkheron.proofs.search.Lts as lts
+use Rattle.files.proofs.policy.read_policy.Reads as read-policy-reads
+use Rattle.pairs.proofs.pairs_of.Reads as pairs-of-reads
+use Rattle.search.proofs.search.Reads as search-reads
+
+abbrev cs : lts.Claims
+cs = (read-policy-reads.Asked, read-policy-reads.Learnt, pairs-of-reads.Asked, pairs-of-reads.Learnt, search-reads.Asked, search-reads.Learnt)
+
+-- the policy, once its file is accepted, and its pairs
+its-policy : (c : lts.After-enum-told cs reads.Pre reads.Post) → Taken (c .before .before .before .before .before .args .policy .now)
+its-policy c =
+    policy-taken (c .before .before .before .before .shared-slice-known .given) (sym (c .before .before .read-policy .ensures) ∙ c .enum-told .given .1)
+
+its-pairs : (c : lts.After-pairs-of cs reads.Pre reads.Post) → Listed (IsPairs (atoms (its-policy (c .before) .term))) (c .pairs-of .result)
+its-pairs c = pairs-listed (its-policy (c .before) .term) (its-policy (c .before) .body) _ (search needs) (c .pairs-of .ensures)
+
+-- the verdict, with what is then in the space
+its-verdict : (c : lts.After-search cs reads.Pre reads.Post) →
+    let a = c .before .before .before .before .before .before .before .before .before .before .before .before .args in
+    Searches (a .policy .now) (a .space .now) (answer (c .before .before .before .before .before .before .pairs-of .result .count) (c .search .result)) (c .search .last .1 .1 .0)
+its-verdict c =
+    let p = its-policy (c .before .before .before .before .before .before .before) in
+    searched (p .file) _ (its-pairs (c .before .before .before .before .before .before))
+    (c .before .before .before .before .if1 .left) (c .before .before .before .if2 .left) (c .search .ensures .right (p .term) (p .here))
+
+read-policy-requires : tie.Need-read-policy-requires
+read-policy-requires c κs = search needs
+
+enum-known-number : tie.Need-enum-known-number
+enum-known-number c = search needs
+
+returns : tie.Need-returns
+returns c = refusal (policy-refused _ (sym (c .before .before .before .read-policy .ensures) ∙ c .before .number .given .1))
+
+enum-told : tie.Need-enum-told
+enum-told c = search needs
+
+pairs-of-requires : tie.Need-pairs-of-requires
+pairs-of-requires c κs = (its-policy c .long, encoded (its-policy c))
+
+returns-2 : tie.Need-returns-2
+returns-2 c =
+    let l = its-pairs (c .before .before) in
+    too-many (its-policy (c .before .before .before) .file) (l .right) (omega (arith, l .size, c .if1 .taken))
+
+returns-3 : tie.Need-returns-3
+returns-3 c =
+    let l = its-pairs (c .before .before .before) in
+    too-small (its-policy (c .before .before .before .before) .file) (l .right) (omega (arith, l .size, c .before .if1 .left)) (c .if2 .taken)
+
+array-share-prefix-list : tie.Need-array-share-prefix-list
+array-share-prefix-list c =
+    let l : length (c .before .before .before .pairs-of .result .pairs) ≡ 254 = search needs in
+    omega (arith, c .before .if1 .left)
+
+slice-aggregate-search : tie.Need-slice-aggregate-search
+slice-aggregate-search c = sym (its-pairs (c .before .before .before .before) .front)
+
+search-requires : tie.Need-search-requires
+search-requires c κs = (
+  its-policy (c .before .before .before .before .before .before) .has,
+  omega (arith, its-pairs (c .before .before .before .before .before) .front, c .before .before .before .if1 .left),
+  c .before .before .if2 .left,
+)
+
+enum-told-2 : tie.Need-enum-told-2
+enum-told-2 c = search needs
+
+enum-known-m : tie.Need-enum-known-m
+enum-known-m c = search needs
+
+same-length : tie.Need-same-length
+same-length c = search needs
+
+returns-4 : tie.Need-returns-4
+returns-4 c = rw (c .enum-told2 .given .1) at (its-verdict (c .before .before .before .before))
+
+same-length-2 : tie.Need-same-length-2
+same-length-2 c = search needs
+
+returns-5 : tie.Need-returns-5
+returns-5 c = rw (c .before .m .given .1) at (its-verdict (c .before .before .before .before .before))
+
+pub search-spec : {M : Type 1} → statement M
+search-spec =
+    tie.close
+    (tie.spec
+    read-policy-requires
+    enum-known-number
+    returns
+    enum-told
+    pairs-of-requires
+    returns-2
+    returns-3
+    array-share-prefix-list
+    slice-aggregate-search
+    search-requires
+    enum-told-2
+    enum-known-m
+    same-length
+    returns-4
+    same-length-2
+    returns-5)

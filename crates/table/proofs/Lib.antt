@@ -1,0 +1,7 @@
+pub mod Words
+pub mod Rows
+pub mod Lanes
+pub mod Numbered
+pub mod Pass
+pub mod Judged
+pub mod Filled

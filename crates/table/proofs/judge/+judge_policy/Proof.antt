@@ -1,0 +1,209 @@
+-- The cycle {judge_policy}, by the number of nodes left: the byte says which node stands there, and the rows of its parts make its own.
+use Prim.Native.Nat.{ℕ, _<_}
+use mathlib.Core.Path.{_≡_}
+use native.Mathlib.Omega.{arith}
+use lib.ListN.{getD}
+use borrow.Fn.Kinds.{In}
+use borrow.Fn.PlainCycle.{Measures, is, falls, and}
+use Rattle.ptacl.specs.Term.{policy, anAnd, tagOf}
+use Rattle.files.proofs.View.{Inner, has-room, has-left, has-target, has-body, has-inner, has-first, has-second, has-and-tag}
+use Rattle.evaluate.proofs.Nodes.{for-part}
+use Rattle.table.proofs.Judged.{target-ends, policy-ends, deny-judged, allow-judged, targeted-judged}
+use Rattle.table.proofs.Judged.{policy-not-judged, policy-default-judged, policy-and-judged, some-judged}
+use Rattle.table.proofs.judge.judge_policy.Reads as reads
+use Rattle.table.proofs.judge.judge_policy.Kinds as kinds
+use Rattle.table.proofs.judge.+judge_policy.Lts-judge_policy as lts
+use Rattle.table.proofs.judge.both.Reads as both-reads
+use Rattle.table.proofs.judge.decided.Reads as decided-reads
+use Rattle.table.proofs.judge.judge_target.Reads as judge-target-reads
+use Rattle.table.proofs.judge.targeted.Reads as targeted-reads
+use Rattle.table.proofs.row.Row.or.Reads as or-reads
+use Rattle.table.proofs.row.Row.same.Reads as same-reads
+use Rattle.table.proofs.judge.+judge_policy.{statement}
+use Rattle.table.proofs.judge.+judge_policy.Tie.{close}
+
+abbrev μ : Measures 3 kinds.ps ℕ
+μ κs a = a .1 .1 .0
+
+-- what the function is given at the measure t, and what a call of it asks below t
+abbrev at : ℕ → In 3 kinds.ps
+at t = and 3 kinds.ps (is 3 kinds.ps μ t) reads.Pre
+
+abbrev below : ℕ → In 3 kinds.ps
+below t = and 3 kinds.ps (falls 3 kinds.ps _<_ μ t) reads.Pre
+
+abbrev claims : ℕ → lts.Claims
+claims t = (
+  same-reads.Asked,
+  same-reads.Learnt,
+  decided-reads.Asked,
+  decided-reads.Learnt,
+  judge-target-reads.Asked,
+  judge-target-reads.Learnt,
+  below t,
+  reads.Post,
+  targeted-reads.Asked,
+  targeted-reads.Learnt,
+  or-reads.Asked,
+  or-reads.Learnt,
+  both-reads.Asked,
+  both-reads.Learnt,
+)
+
+module _ (t : ℕ) where
+  -- the byte is none of deny, allow, targeted; nor of not and deny-by-default
+  inner-byte : (c : lts.Else3 (claims t) (at t) reads.Post) →
+      let a = c .before .before .before .before .before .before .args in
+      Inner policy (getD (a .file .now) (a .at) 0)
+  inner-byte c =
+      let h = c .before .before .before .before .before .before .pre .1 .0 in
+      has-inner h (c .before .before .if1 .left, c .before .if2 .left, c .if3 .left)
+
+  and-byte : (c : lts.Else5 (claims t) (at t) reads.Post) →
+      let a = c .before .before .before .before .before .before .before .before .before .before .before .before .args in
+      getD (a .file .now) (a .at) 0 ≡ tagOf (anAnd policy)
+  and-byte c = has-and-tag (inner-byte (c .before .before .before .before .before .before)) (c .before .if4 .left) (c .if5 .left)
+
+  shared-slice-read-tag : lts.Need-shared-slice-read-tag (claims t) (at t) reads.Post
+  shared-slice-read-tag c = has-room (c .before .before .before .pre .1 .0)
+
+  same-requires : lts.Need-same-requires (claims t) (at t) reads.Post
+  same-requires c κs = tt
+
+  same-requires-2 : lts.Need-same-requires-2 (claims t) (at t) reads.Post
+  same-requires-2 c κs = tt
+
+  add-decided : lts.Need-add-decided (claims t) (at t) reads.Post
+  add-decided c = omega (arith, has-room (c .before .before .before .before .before .before .pre .1 .0))
+
+  decided-requires : lts.Need-decided-requires (claims t) (at t) reads.Post
+  decided-requires c κs = tt
+
+  returns : lts.Need-returns (claims t) (at t) reads.Post
+  returns c =
+      let n = c .before .before .same .ensures in
+      deny-judged _ n (c .before .same2 .ensures) (c .before .before .before .if1 .taken) (c .decided .ensures)
+
+  same-requires-3 : lts.Need-same-requires-3 (claims t) (at t) reads.Post
+  same-requires-3 c κs = tt
+
+  same-requires-4 : lts.Need-same-requires-4 (claims t) (at t) reads.Post
+  same-requires-4 c κs = tt
+
+  add-decided-2 : lts.Need-add-decided-2 (claims t) (at t) reads.Post
+  add-decided-2 c = omega (arith, has-room (c .before .before .before .before .before .before .before .pre .1 .0))
+
+  decided-requires-2 : lts.Need-decided-requires-2 (claims t) (at t) reads.Post
+  decided-requires-2 c κs = tt
+
+  returns-2 : lts.Need-returns-2 (claims t) (at t) reads.Post
+  returns-2 c =
+      let a = c .before .before .same3 .ensures in
+      allow-judged _ (c .before .same4 .ensures) a (c .before .before .before .if2 .taken) (c .decided2 .ensures)
+
+  add-judge-target : lts.Need-add-judge-target (claims t) (at t) reads.Post
+  add-judge-target c = omega (arith, has-room (c .before .before .before .before .before .before .pre .1 .0))
+
+  sub-judge-target : lts.Need-sub-judge-target (claims t) (at t) reads.Post
+  sub-judge-target c = has-left (c .before .before .before .before .before .before .pre .1 .0)
+
+  judge-target-requires : lts.Need-judge-target-requires (claims t) (at t) reads.Post
+  judge-target-requires c κs =
+      let h = c .before .before .before .before .before .before .pre .1 in (has-target (h .0) (c .if3 .taken), h .1)
+
+  sub-judge-policy : lts.Need-sub-judge-policy (claims t) (at t) reads.Post
+  sub-judge-policy c = has-left (c .before .before .before .before .before .before .before .pre .1 .0)
+
+  judge-policy-requires : lts.Need-judge-policy-requires (claims t) (at t) reads.Post
+  judge-policy-requires c κs =
+      let h = c .before .before .before .before .before .before .before .pre in
+      for-part h (has-body (h .1 .0) (c .before .if3 .taken) (target-ends (c .judge-target .ensures .0)))
+
+  targeted-requires : lts.Need-targeted-requires (claims t) (at t) reads.Post
+  targeted-requires c κs = c .before .judge-target .ensures .1
+
+  returns-3 : lts.Need-returns-3 (claims t) (at t) reads.Post
+  returns-3 c =
+      let f = c .before .before .judge-target .ensures .0 in
+      let g = c .before .judge-policy .ensures in
+      targeted-judged _ _ _ (c .before .before .before .if3 .taken) f g (c .targeted .ensures)
+
+  add-judge-policy : lts.Need-add-judge-policy (claims t) (at t) reads.Post
+  add-judge-policy c = omega (arith, has-room (c .before .before .before .before .before .before .pre .1 .0))
+
+  sub-judge-policy-2 : lts.Need-sub-judge-policy-2 (claims t) (at t) reads.Post
+  sub-judge-policy-2 c = has-left (c .before .before .before .before .before .before .pre .1 .0)
+
+  judge-policy-requires-2 : lts.Need-judge-policy-requires-2 (claims t) (at t) reads.Post
+  judge-policy-requires-2 c κs =
+      let h = c .before .before .before .before .before .before .pre in for-part h (has-first (h .1 .0) (inner-byte c))
+
+  returns-4 : lts.Need-returns-4 (claims t) (at t) reads.Post
+  returns-4 c = policy-not-judged _ (c .before .before .before .before .judge-policy2 .ensures) (c .if4 .taken)
+
+  or-requires : lts.Need-or-requires (claims t) (at t) reads.Post
+  or-requires c κs = tt
+
+  decided-requires-3 : lts.Need-decided-requires-3 (claims t) (at t) reads.Post
+  decided-requires-3 c κs = tt
+
+  returns-5 : lts.Need-returns-5 (claims t) (at t) reads.Post
+  returns-5 c =
+      let f = c .before .before .before .before .before .before .before .judge-policy2 .ensures in
+      policy-default-judged _ f _ (c .before .before .if5 .taken) (c .before .or .ensures) (c .decided3 .ensures)
+
+  sub-judge-policy-3 : lts.Need-sub-judge-policy-3 (claims t) (at t) reads.Post
+  sub-judge-policy-3 c =
+      has-left (c .before .before .before .before .before .before .before .before .before .before .before .before .pre .1 .0)
+
+  judge-policy-requires-3 : lts.Need-judge-policy-requires-3 (claims t) (at t) reads.Post
+  judge-policy-requires-3 c κs =
+      let h = c .before .before .before .before .before .before .before .before .before .before .before .before .pre in
+      for-part h (has-second (h .1 .0) (and-byte c) (policy-ends (c .before .before .before .before .before .judge-policy2 .ensures)))
+
+  both-requires : lts.Need-both-requires (claims t) (at t) reads.Post
+  both-requires c κs =
+      let h = c .before .before .before .before .before .before .before .before .before .before .before .before .before .pre .1 .0 in
+      let f = c .before .before .before .before .before .before .judge-policy2 .ensures in
+      let e = has-second h (and-byte (c .before)) (policy-ends f) in
+      let n = inner-byte (c .before .before .before .before .before .before .before) in
+      (some-judged _ (has-first h n) f, some-judged _ e (c .judge-policy3 .ensures))
+
+  returns-6 : lts.Need-returns-6 (claims t) (at t) reads.Post
+  returns-6 c =
+      let f = c .before .before .before .before .before .before .before .judge-policy2 .ensures in
+      policy-and-judged _ f _ _ (and-byte (c .before .before)) (c .before .judge-policy3 .ensures) (c .both .ensures)
+
+pub +judge-policy-spec : {M : Type 1} → statement M
++judge-policy-spec = close μ λ t. lts.spec (claims t)
+    (at t)
+    reads.Post
+    (shared-slice-read-tag t)
+    (same-requires t)
+    (same-requires-2 t)
+    (add-decided t)
+    (decided-requires t)
+    (returns t)
+    (same-requires-3 t)
+    (same-requires-4 t)
+    (add-decided-2 t)
+    (decided-requires-2 t)
+    (returns-2 t)
+    (add-judge-target t)
+    (sub-judge-target t)
+    (judge-target-requires t)
+    (sub-judge-policy t)
+    (judge-policy-requires t)
+    (targeted-requires t)
+    (returns-3 t)
+    (add-judge-policy t)
+    (sub-judge-policy-2 t)
+    (judge-policy-requires-2 t)
+    (returns-4 t)
+    (or-requires t)
+    (decided-requires-3 t)
+    (returns-5 t)
+    (sub-judge-policy-3 t)
+    (judge-policy-requires-3 t)
+    (both-requires t)
+    (returns-6 t)

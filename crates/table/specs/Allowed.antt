@@ -1,0 +1,25 @@
+-- The table of allowed subsets: bit m is 1 exactly if the subset numbered m is allowed.
+use Prim.Native.Nat.{ℕ, _/_, _%_, _^_, _<_}
+use mathlib.Core.Path.{_≡_}
+use mathlib.Core.Bool.{Bool}
+use mathlib.Core.List.{List, map}
+use lib.ListN.{length, getD}
+use Rattle.ptacl.specs.Request.{Pair}
+use Rattle.ptacl.specs.Term.{Policy}
+use Rattle.ptacl.specs.Meaning.{eval}
+use Rattle.ptacl.specs.Pairs.{unpacked}
+use Rattle.ptacl.specs.Exposure.{Reading, bit, subset}
+use Rattle.files.specs.Encoding.{enc}
+use Rattle.files.specs.Places.{At}
+
+-- by a reading: the subset numbered m is allowed
+unfoldable pub allowed : Reading → Policy → List Pair → ℕ → Bool
+allowed g p ps m = g (eval p (subset ps m))
+
+-- bit m of a table of words
+unfoldable pub bitAt : List ℕ → ℕ → Bool
+bitAt t m = bit (getD t (m / 64) 0) (m % 64)
+
+-- the table is that of the policy whose file this is, for these pairs
+pub record Table (g : Reading) (b pairs t : List ℕ) : Type 0 where
+  pub entry : (p : Policy) → At b 3 (enc p) → (m : ℕ) → m < 2 ^ length pairs → bitAt t m ≡ allowed g p (map unpacked pairs) m

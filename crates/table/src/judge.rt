@@ -1,0 +1,225 @@
+// What a target and a policy come to in 512 requests at once.
+ghost use mathlib.Core.Path.{_≡_};
+ghost use mathlib.Core.List.{map};
+ghost use Prim.Native.Nat.{_/_, _%_, _<_, _≤_};
+ghost use lib.ListN.{length};
+ghost use Rattle.ptacl.specs.Term.{target, policy};
+ghost use Rattle.ptacl.specs.Value.{andV};
+ghost use Rattle.ptacl.specs.Values.{each2, under};
+ghost use Rattle.ptacl.specs.Meaning.{atomAt};
+ghost use Rattle.ptacl.specs.Pairs.{unpacked};
+ghost use Rattle.ptacl.specs.Exposure.{strict};
+ghost use Rattle.files.specs.Places.{Has};
+ghost use Rattle.table.specs.Rows.{lane, RowIs, laneOf, request, valueAt, Apart, setAt, setBy, SomeAt, ValuesAre, SetsAre, TargetRows, PolicyRows, PairRows, AllowedRow};
+use crate::row::ONES;
+use crate::row::Row;
+
+// A target: where it is 1, and where it is 0.
+pub struct TargetRow {
+    pub is1: Row,
+    pub is0: Row,
+    pub next: usize,
+}
+
+// A policy: where its set holds allow, deny and undefined.
+pub struct PolicyRow {
+    pub allow: Row,
+    pub deny: Row,
+    pub undefined: Row,
+    pub next: usize,
+}
+
+// Pair i's row.
+fn row_of(rows: &[u64; 128], i: usize) -> Row
+    requires { ⌜ i < 16 ⌝ }
+    ensures { λ r. ⌜ RowIs r (laneOf (now (rows .entry)) i) ⌝ }
+{
+    let at = i * 8;
+    Row {
+        w0: rows[at + 0],
+        w1: rows[at + 1],
+        w2: rows[at + 2],
+        w3: rows[at + 3],
+        w4: rows[at + 4],
+        w5: rows[at + 5],
+        w6: rows[at + 6],
+        w7: rows[at + 7],
+    }
+}
+
+// The atom whose pair this is; `next` is the place behind it.
+fn atom(pairs: &[u32], rows: &[u64; 128], pair: u32, next: usize) -> TargetRow
+    requires { ⌜ length (now pairs) ≤ 16 ⌝ }
+    ensures { λ r. ⌜ ValuesAre r (λ j. atomAt (map unpacked (request (now (pairs .entry)) (now (rows .entry)) 0 j)) (pair / 65536) (pair % 65536))
+        × Apart r × (r .next ≡ next) ⌝ }
+{
+    let mut held = Row::same(0);
+    let mut named = Row::same(0);
+    let mut i = 0;
+    while i < pairs.len() {
+        if pairs[i] / 65536 == pair / 65536 {
+            let row = row_of(rows, i);
+            named = named.or(row);
+            if pairs[i] == pair {
+                held = held.or(row);
+            }
+        }
+        i += 1;
+    }
+    let other = held.not();
+    TargetRow {
+        is1: held,
+        is0: named.and(other),
+        next,
+    }
+}
+
+// The target at `at`, of at most `left` nodes.
+fn judge_target(file: &[u8], at: usize, left: usize, pairs: &[u32], rows: &[u64; 128]) -> TargetRow
+    requires { ⌜ Has target (now file) at left × (length (now pairs) ≤ 16) ⌝ }
+    ensures { λ r. ⌜ TargetRows (now (file .entry)) at (now (pairs .entry)) (now (rows .entry)) r × Apart r ⌝ }
+{
+    let tag = file[at];
+    if tag == 0x10 {
+        return atom(pairs, rows, files::bytes::pair(file, at + 1), at + 5);
+    }
+    let first = judge_target(file, at + 1, left - 1, pairs, rows);
+    let is1 = first.is1;
+    let is0 = first.is0;
+    let next = first.next;
+    if tag == 0x11 {
+        return TargetRow {
+            is1: is0,
+            is0: is1,
+            next,
+        };
+    }
+    if tag == 0x12 {
+        return TargetRow {
+            is1,
+            is0: is1.not(),
+            next,
+        };
+    }
+    let second = judge_target(file, next, left - 1, pairs, rows);
+    let other1 = second.is1;
+    let other0 = second.is0;
+    TargetRow {
+        is1: is1.and(other1),
+        is0: is0.or(other0),
+        next: second.next,
+    }
+}
+
+// Allow or deny in all requests.
+fn decided(allow: Row, deny: Row, next: usize) -> PolicyRow
+    ensures { λ r. ⌜ SetsAre r (λ j. setBy (lane allow j) (lane deny j)) × (r .next ≡ next) ⌝ }
+{
+    PolicyRow {
+        allow,
+        deny,
+        undefined: Row::same(0),
+        next,
+    }
+}
+
+// The body's set where the target is 1, undefined alone where it is 0, both where it is undefined.
+fn targeted(target: TargetRow, body: PolicyRow) -> PolicyRow
+    requires { ⌜ Apart target ⌝ }
+    ensures { λ r. ⌜ SetsAre r (λ j. under (valueAt target j) (setAt body j)) × (r .next ≡ body .next) ⌝ }
+{
+    let is1 = target.is1;
+    let is0 = target.is0;
+    let allow = body.allow;
+    let deny = body.deny;
+    let undefined = body.undefined;
+    let not0 = is0.not();
+    let not1 = is1.not();
+    PolicyRow {
+        allow: allow.and(not0),
+        deny: deny.and(not0),
+        undefined: undefined.or(not1),
+        next: body.next,
+    }
+}
+
+// Every pair of members: deny with anything is deny, since no set is empty.
+fn both(left: PolicyRow, right: PolicyRow) -> PolicyRow
+    requires { ⌜ SomeAt left × SomeAt right ⌝ }
+    ensures { λ r. ⌜ SetsAre r (λ j. each2 andV (setAt left j) (setAt right j)) × (r .next ≡ right .next) ⌝ }
+{
+    let a = left.allow;
+    let d = left.deny;
+    let u = left.undefined;
+    let b = right.allow;
+    let e = right.deny;
+    let v = right.undefined;
+    let au = a.or(u);
+    let bv = b.or(v);
+    let u_bv = u.and(bv);
+    let v_au = v.and(au);
+    PolicyRow {
+        allow: a.and(b),
+        deny: d.or(e),
+        undefined: u_bv.or(v_au),
+        next: right.next,
+    }
+}
+
+// The policy at `at`, of at most `left` nodes.
+fn judge_policy(file: &[u8], at: usize, left: usize, pairs: &[u32], rows: &[u64; 128]) -> PolicyRow
+    requires { ⌜ Has policy (now file) at left × (length (now pairs) ≤ 16) ⌝ }
+    ensures { λ r. ⌜ PolicyRows (now (file .entry)) at (now (pairs .entry)) (now (rows .entry)) r ⌝ }
+{
+    let tag = file[at];
+    if tag == 0x20 {
+        return decided(Row::same(0), Row::same(ONES), at + 1);
+    }
+    if tag == 0x21 {
+        return decided(Row::same(ONES), Row::same(0), at + 1);
+    }
+    if tag == 0x22 {
+        let target = judge_target(file, at + 1, left - 1, pairs, rows);
+        let middle = target.next;
+        let body = judge_policy(file, middle, left - 1, pairs, rows);
+        return targeted(target, body);
+    }
+    let first = judge_policy(file, at + 1, left - 1, pairs, rows);
+    let allow = first.allow;
+    let deny = first.deny;
+    let undefined = first.undefined;
+    let next = first.next;
+    if tag == 0x23 {
+        return PolicyRow {
+            allow: deny,
+            deny: allow,
+            undefined,
+            next,
+        };
+    }
+    if tag == 0x24 {
+        return decided(allow, deny.or(undefined), next);
+    }
+    let second = judge_policy(file, next, left - 1, pairs, rows);
+    both(first, second)
+}
+
+// Where the set is allow alone.
+fn only_allow(set: PolicyRow) -> Row
+    ensures { λ r. ⌜ RowIs r (λ j. strict (setAt set j)) ⌝ }
+{
+    let allow = set.allow;
+    let deny = set.deny;
+    let undefined = set.undefined;
+    let more = deny.or(undefined);
+    let none = more.not();
+    allow.and(none)
+}
+
+// Which of the 512 subsets whose pairs these rows give are allowed.
+pub fn judge(file: &[u8], pairs: &[u32], rows: &[u64; 128], w: usize) -> Row
+    requires { ⌜ Has policy (now file) 3 255 × (length (now pairs) ≤ 16) × PairRows w (now rows) ⌝ }
+    ensures { λ r. ⌜ AllowedRow strict (now (file .entry)) (now (pairs .entry)) w r ⌝ }
+{
+    only_allow(judge_policy(file, 3, 255, pairs, rows))
+}

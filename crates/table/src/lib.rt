@@ -1,0 +1,104 @@
+// The table of allowed subsets of a policy's pairs. It is filled 512 subsets at a time: a request to each bit of eight words.
+ghost use mathlib.Core.Path.{_≡_};
+ghost use Prim.Native.Nat.{_+_, _*_, _^_, _<_, _≤_};
+ghost use lib.ListN.{length};
+ghost use Rattle.ptacl.specs.Term.{policy};
+ghost use Rattle.ptacl.specs.Exposure.{strict};
+ghost use Rattle.files.specs.Places.{Has};
+ghost use Rattle.table.specs.Allowed.{bitAt, Table};
+ghost use Rattle.table.specs.Rows.{words, PairWord, PairRows, stored};
+use crate::row::ONES;
+use crate::row::Row;
+
+pub mod judge;
+pub mod row;
+
+// The first six pairs, by their bits in the numbers from 0 to 63.
+const LOW: [u64; 6] = [
+    0xAAAA_AAAA_AAAA_AAAA,
+    0xCCCC_CCCC_CCCC_CCCC,
+    0xF0F0_F0F0_F0F0_F0F0,
+    0xFF00_FF00_FF00_FF00,
+    0xFFFF_0000_FFFF_0000,
+    0xFFFF_FFFF_0000_0000,
+];
+
+// Which of the subsets from 64 * w on hold pair i.
+pub fn holding(w: usize, i: usize) -> u64
+    requires { ⌜ i < 16 ⌝ }
+    ensures { λ r. ⌜ PairWord w i r ⌝ }
+{
+    if i < 6 {
+        return LOW[i];
+    }
+    if (w >> (i - 6)) % 2 == 1 { ONES } else { 0 }
+}
+
+// The pairs' rows for the subsets from 512 * w on.
+fn pair_rows(w: usize) -> [u64; 128]
+    requires { ⌜ w < 128 ⌝ }
+    ensures { λ r. ⌜ PairRows w r ⌝ }
+{
+    let mut rows = [0u64; 128];
+    let mut at = 0;
+    while at < 128 {
+        rows[at] = holding(w * 8 + at % 8, at / 8);
+        at += 1;
+    }
+    rows
+}
+
+fn put_row(table: &mut [u64; 1024], at: usize, row: Row)
+    requires { ⌜ (at + 8 ≤ 1024) × (length (now table) ≡ 1024) ⌝ }
+    ensures { λ _. ⌜ now (table .exit) ≡ stored (now (table .entry)) at (words row) ⌝ }
+{
+    table[at] = row.w0;
+    let at1 = at + 1;
+    table[at1] = row.w1;
+    let at2 = at1 + 1;
+    table[at2] = row.w2;
+    let at3 = at2 + 1;
+    table[at3] = row.w3;
+    let at4 = at3 + 1;
+    table[at4] = row.w4;
+    let at5 = at4 + 1;
+    table[at5] = row.w5;
+    let at6 = at5 + 1;
+    table[at6] = row.w6;
+    let at7 = at6 + 1;
+    table[at7] = row.w7;
+}
+
+// The rows that 2^k bits take, and at least one.
+fn rows_of(k: usize) -> usize
+    requires { ⌜ k ≤ 16 ⌝ }
+    ensures { λ r. ⌜ (r ≤ 128) × (2 ^ k ≤ 512 * r) ⌝ }
+{
+    if k < 9 {
+        return 1;
+    }
+    1 << (k - 9)
+}
+
+// A bit for each subset of the pairs: whether it is allowed.
+pub fn fill(file: &[u8], pairs: &[u32], table: &mut [u64; 1024])
+    requires { ⌜ Has policy (now file) 3 255 × (length (now pairs) ≤ 16) × (length (now table) ≡ 1024) ⌝ }
+    ensures { λ _. ⌜ (length (now (table .exit)) ≡ 1024) × Table strict (now (file .entry)) (now (pairs .entry)) (now (table .exit)) ⌝ }
+{
+    let end = rows_of(pairs.len());
+    let mut w = 0;
+    while w < end {
+        let rows = pair_rows(w);
+        let row = judge::judge(file, pairs, &rows, w);
+        put_row(&mut *table, w * 8, row);
+        w += 1;
+    }
+}
+
+// Whether the subset m is allowed.
+pub fn entry(table: &[u64; 1024], m: usize) -> bool
+    requires { ⌜ m < 65536 ⌝ }
+    ensures { λ r. ⌜ r ≡ bitAt (now (table .entry)) m ⌝ }
+{
+    (table[m / 64] >> (m % 64)) % 2 == 1
+}
