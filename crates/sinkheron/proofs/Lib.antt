@@ -5,3 +5,4 @@ pub mod ListPairsOne
 pub mod NormalFormOne
 pub mod CertifyOne
 pub mod SearchOne
+pub mod Worked
