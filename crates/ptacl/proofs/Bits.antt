@@ -18,7 +18,7 @@ bit-zero m = ap odd (div-one m)
 pub bit-suc : (m i : ℕ) → bit m (suc i) ≡ bit (m / 2) i
 bit-suc m i = ap odd (ap (λ z. m / z) (pow-succ' 2 i) ∙ sym (div-div-eq-div-mul m 2 (2 ^ i)))
 
-bit-le : (m i : ℕ) → bit m i ≡ true → 2 ^ i ≤ m
+pub bit-le : (m i : ℕ) → bit m i ≡ true → 2 ^ i ≤ m
 bit-le m i h =
     let e = eqb-true (m / 2 ^ i % 2) 1 h in
     let l = le-div-iff-mul-le {k = 2 ^ i} {x = 1} {y = m} (pow-pos i) .0 (omega arith) in

@@ -24,7 +24,6 @@ over-more xs s x h =
 -- of the pairs before i those of the subset are at the front; `rest` numbers the subset of the others
 pub record Chosen (pairs : List ℕ) (m : ℕ) (out₀ out : List ℕ) (rest i k : ℕ) : Type 0 where
   pub front : List ℕ
-  pub most : i ≤ length pairs
   pub few : k ≤ i
   pub count : k ≡ length front
   pub size : length out ≡ length out₀
@@ -34,7 +33,6 @@ pub record Chosen (pairs : List ℕ) (m : ℕ) (out₀ out : List ℕ) (rest i k
 pub chosen-start : (pairs : List ℕ) (m : ℕ) (out : List ℕ) → Chosen pairs m out out m 0 0
 chosen-start pairs m out = record {
   front = [];
-  most = omega arith;
   few = omega arith;
   count = refl;
   size = refl;
@@ -58,7 +56,6 @@ module _ {pairs : List ℕ} {m : ℕ} {out₀ out : List ℕ} {rest i k : ℕ} (
         let f = c .few in
         record {
           front = c .front ++ (x ∷ []);
-          most = omega arith;
           few = omega arith;
           count = omega (arith, length-append (c .front) (x ∷ []));
           size = length-set out k x ∙ c .size;
@@ -71,7 +68,6 @@ module _ {pairs : List ℕ} {m : ℕ} {out₀ out : List ℕ} {rest i k : ℕ} (
     pub chosen-without : (rest % 2 ≡ 1 → ⊥) → Chosen pairs m out₀ out (rest / 2) (i + 1) k
     chosen-without e = record {
       front = c .front;
-      most = omega arith;
       few = omega (arith, c .few);
       count = c .count;
       size = c .size;

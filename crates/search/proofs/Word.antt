@@ -10,14 +10,11 @@ use lib.Pow.{shl-shr, pow-add}
 use borrow.Author.Count.{below-more}
 use Rattle.ptacl.specs.Exposure.{bit, onePair}
 use Rattle.ptacl.proofs.Bools.{either, clash}
-use Rattle.ptacl.proofs.Bits.{bit-below}
+use Rattle.ptacl.proofs.Bits.{bit-le, bit-below}
 use Rattle.table.specs.Allowed.{bitAt}
 use Rattle.table.specs.Rows.{PairWord}
 use Rattle.table.proofs.Words.{ones, bit-and, bit-not, bit-none, bit-mod, bit-div, bit-low, bit-high}
 use Rattle.search.specs.Hits.{HitAt, LessWord, HitWord, QuietIf}
-
-pub bit-le : (m i : ℕ) → bit m i ≡ true → 2 ^ i ≤ m
-bit-le m i h = let n : (m < 2 ^ i → ⊥) = λ l. let e = bit-below m i i l h in omega arith in omega arith
 
 -- a hit takes one of the k pairs, which its subset holds
 pub hit-index : {P : ℕ → Bool} {k m i : ℕ} → HitAt P onePair k m i → i < k

@@ -1,7 +1,7 @@
 // The first exposure of a policy of at most 16 pairs.
 ghost use mathlib.Core.Path.{_≡_};
 ghost use mathlib.Core.List.{map};
-ghost use Prim.Native.Nat.{_+_, _*_, _^_, _<_, _≤_};
+ghost use Prim.Native.Nat.{_^_, _<_, _≤_};
 ghost use lib.ListN.{length};
 ghost use Rattle.ptacl.specs.Term.{policy};
 ghost use Rattle.ptacl.specs.Exposure.{subset, onePair};

@@ -6,3 +6,5 @@ pub mod NormalFormOne
 pub mod CertifyOne
 pub mod SearchOne
 pub mod Worked
+pub mod Ranges
+pub mod WordOne

@@ -3,3 +3,4 @@ pub mod ListPairs
 pub mod NormalForm
 pub mod Certify
 pub mod Search
+pub mod Word

@@ -10,6 +10,8 @@ use files::policy::PolicyRead;
 use ptacl::DecisionSet;
 use search::Verdict;
 
+pub mod face;
+
 pub enum Decision {
     Refused { number: u8, place: usize },
     Decided(DecisionSet),

@@ -91,7 +91,8 @@ module _ {b : List ℕ} {i : ℕ} {pairs rows : List ℕ} where
       → PolicyRows b (t .next) pairs rows p → SetsAre r (λ j. under (valueAt t j) (setAt p j)) × (r .next ≡ p .next)
       → PolicyRows b i pairs rows r
   targeted-judged t p r e h k s =
-      judged-sets r s (λ j l. is-targeted e (h .held j l) (k .held j l) (ap (λ x. code (under (valueAt t j) x)) (sym (code-set (setAt p j)))))
+      judged-sets r s
+      (λ j l. is-targeted e (h .held j l) (k .held j l) (ap (λ x. code (under (valueAt t j) x)) (sym (code-set (setAt p j)))))
 
   module _ (p : PolicyRow) (h : PolicyRows b (i + 1) pairs rows p) where
     pub policy-not-judged : getD b i 0 ≡ tagOf (aNot policy)

@@ -10,13 +10,13 @@ use Rattle.ptacl.specs.Exposure.{onePair}
 use Rattle.ptacl.proofs.Bools.{clash}
 use Rattle.table.specs.Allowed.{bitAt}
 use Rattle.search.specs.Hits.{HitAt, Finds}
-use Rattle.search.proofs.Word.{bit-le}
+use Rattle.ptacl.proofs.Bits.{bit-le}
 use Rattle.search.proofs.Steps.{NoneBefore, NoneAt, before-start, before-more, before-quiet, at-start, at-more, at-end}
 use Rattle.search.proofs.find.Statement.{statement}
 use Rattle.search.proofs.find.Tie as tie
 
 abbrev Inv-loop : tie.InvT-loop
-Inv-loop allowed k end m i₀ i = (i ≤ k) × NoneAt (HitAt (bitAt allowed) onePair k) m i
+Inv-loop allowed k end m i₀ i = NoneAt (HitAt (bitAt allowed) onePair k) m i
 
 abbrev μ-loop : tie.MeasureT-loop
 μ-loop allowed k end m i₀ i = k - i
@@ -51,7 +51,7 @@ entry-requires : tie.Need-entry-requires Inv-loop μ-loop Inv-subsets μ-subsets
 entry-requires c κs = search needs
 
 loop-holds : tie.Need-loop-holds Inv-loop μ-loop Inv-subsets μ-subsets
-loop-holds c = (search needs, at-start)
+loop-holds c = at-start
 
 shr-if5 : tie.Need-shr-if5 Inv-loop μ-loop Inv-subsets μ-subsets
 shr-if5 c = search needs
@@ -74,13 +74,10 @@ loop-less : tie.Need-loop-less Inv-loop μ-loop Inv-subsets μ-subsets
 loop-less c = search needs
 
 loop-again : tie.Need-loop-again Inv-loop μ-loop Inv-subsets μ-subsets
-loop-again c = (
-  search needs,
-  at-more (c .before .before .loop .inv .1) (λ e. ⊎-elim
-      (λ w. clash (e .smaller) (rw (← w .1 .ensures) (sym (w .2 .ensures) ∙ w .3 .left)))
-      (λ w. w .left (eqb-true _ _ (e .taken)))
-      (c .if5 .came)),
-)
+loop-again c = at-more (c .before .before .loop .inv) (λ e. ⊎-elim
+    (λ w. clash (e .smaller) (rw (← w .1 .ensures) (sym (w .2 .ensures) ∙ w .3 .left)))
+    (λ w. w .left (eqb-true _ _ (e .taken)))
+    (c .if5 .came))
 
 add-m-2 : tie.Need-add-m-2 Inv-loop μ-loop Inv-subsets μ-subsets
 add-m-2 c = search needs
@@ -93,7 +90,7 @@ subsets-again-2 c =
     let v = c .before .before .before .before .subsets .inv in (
       v .0,
       before-more (v .1) (⊎-elim
-          (λ w. at-end (w .1 .inv .1) (w .2 .left))
+          (λ w. at-end (w .1 .inv) (w .2 .left))
           (λ w n e. clash (sym (c .before .entry .ensures) ∙ not-false _ (w .left)) (e .larger))
           (c .if4 .came)),
     )
@@ -113,7 +110,7 @@ returns-2 c =
         smaller = rw (← c .before .before .pow22 .ensures) (sym (c .before .entry2 .ensures) ∙ c .if6 .taken);
       };
       earlier = λ {m'} {i'} k h. l .inv .1 .none m' k i' h;
-      before = λ {i'} k h. c .before .before .before .before .before .loop .inv .1 .none i' k h;
+      before = λ {i'} k h. c .before .before .before .before .before .loop .inv .none i' k h;
     })
 
 pub find-spec : {M : Type 1} → statement M

@@ -1,18 +1,18 @@
 -- The loop's invariant: none of the 64 subsets is an exposure at a pair before i.
-use Prim.Native.Nat.{_-_, _≤_}
+use Prim.Native.Nat.{_-_}
 use borrow.Author.Needs.{needs}
 use Rattle.search.proofs.Word.{QuietTo, quiet-start, quiet-more, quiet-end, not-quiet}
 use Rattle.search.proofs.is_quiet.Statement.{statement}
 use Rattle.search.proofs.is_quiet.Tie as tie
 
 abbrev Inv-loop : tie.InvT-loop
-Inv-loop allowed w k i₀ i = (i ≤ k) × QuietTo allowed k w i
+Inv-loop allowed w k i₀ i = QuietTo allowed k w i
 
 abbrev μ-loop : tie.MeasureT-loop
 μ-loop allowed w k i₀ i = k - i
 
 loop-holds : tie.Need-loop-holds Inv-loop μ-loop
-loop-holds c = (search needs, quiet-start)
+loop-holds c = quiet-start
 
 hits-requires : tie.Need-hits-requires Inv-loop μ-loop
 hits-requires c κs = search needs
@@ -27,10 +27,10 @@ loop-less : tie.Need-loop-less Inv-loop μ-loop
 loop-less c = search needs
 
 loop-again : tie.Need-loop-again Inv-loop μ-loop
-loop-again c = (search needs, quiet-more (c .before .before .before .loop .inv .1) (c .before .hits .ensures) (c .if1 .left))
+loop-again c = quiet-more (c .before .before .before .loop .inv) (c .before .hits .ensures) (c .if1 .left)
 
 returns-2 : tie.Need-returns-2 Inv-loop μ-loop
-returns-2 c = quiet-end (c .before .loop .inv .1) (c .loop-test .left)
+returns-2 c = quiet-end (c .before .loop .inv) (c .loop-test .left)
 
 pub is-quiet-spec : {M : Type 1} → statement M
 is-quiet-spec =

@@ -1,5 +1,5 @@
 -- The loop's invariant: the table is right at the subsets of the rows before w.
-use Prim.Native.Nat.{_-_, _≤_}
+use Prim.Native.Nat.{_-_}
 use native.Mathlib.Omega.{arith}
 use borrow.Author.Needs.{needs}
 use Rattle.ptacl.specs.Exposure.{strict}
@@ -8,7 +8,7 @@ use Rattle.table.proofs.fill.Statement.{statement}
 use Rattle.table.proofs.fill.Tie as tie
 
 abbrev Inv-loop : tie.InvT-loop
-Inv-loop file pairs table₀ end w₀ table w = (w ≤ end) × Filled strict file pairs table w
+Inv-loop file pairs table₀ end w₀ table w = Filled strict file pairs table w
 
 abbrev μ-loop : tie.MeasureT-loop
 μ-loop file pairs table₀ end w₀ table w = end - w
@@ -17,7 +17,7 @@ rows-of-requires : tie.Need-rows-of-requires Inv-loop μ-loop
 rows-of-requires c κs = search needs
 
 loop-holds : tie.Need-loop-holds Inv-loop μ-loop
-loop-holds c = (search needs, filled-start (c .before .before .before .pre .2))
+loop-holds c = filled-start (c .before .before .before .pre .2)
 
 pair-rows-requires : tie.Need-pair-rows-requires Inv-loop μ-loop
 pair-rows-requires c κs = search needs
@@ -41,11 +41,11 @@ loop-again : tie.Need-loop-again Inv-loop μ-loop
 loop-again c =
     let l = c .before .before .before .before .before .before .loop in
     let r = c .before .before .judge in
-    (search needs, rw (c .put-row .ensures) (filled-more (r .result) (l .inv .1) (omega arith) (r .ensures)))
+    rw (c .put-row .ensures) (filled-more (r .result) (l .inv) (omega arith) (r .ensures))
 
 returns : tie.Need-returns Inv-loop μ-loop
 returns c =
-    let f = c .before .loop .inv .1 in
+    let f = c .before .loop .inv in
     (f .size, filled-end f (omega arith))
 
 pub fill-spec : {M : Type 1} → statement M

@@ -1,5 +1,5 @@
 -- The loop's invariant: the words before `at` are those of their pairs.
-use Prim.Native.Nat.{ℕ, _+_, _*_, _-_, _/_, _%_, _≤_, _<_}
+use Prim.Native.Nat.{ℕ, _+_, _*_, _-_, _/_, _%_, _<_}
 use mathlib.Core.Path.{_≡_}
 use native.Mathlib.Omega.{arith}
 use lib.ListN.{length, getD, length-replicate, length-set}
@@ -10,13 +10,13 @@ use Rattle.table.proofs.pair_rows.Statement.{statement}
 use Rattle.table.proofs.pair_rows.Tie as tie
 
 abbrev Inv-loop : tie.InvT-loop
-Inv-loop w rows₀ at₀ rows at = (at ≤ 128) × (length rows ≡ 128) × ((k : ℕ) → k < at → PairWord (w * 8 + k % 8) (k / 8) (getD rows k 0))
+Inv-loop w rows₀ at₀ rows at = (length rows ≡ 128) × ((k : ℕ) → k < at → PairWord (w * 8 + k % 8) (k / 8) (getD rows k 0))
 
 abbrev μ-loop : tie.MeasureT-loop
 μ-loop w rows₀ at₀ rows at = 128 - at
 
 loop-holds : tie.Need-loop-holds Inv-loop μ-loop
-loop-holds c = (search needs, length-replicate {A = ℕ} 128 0, λ k h. absurd (omega arith))
+loop-holds c = (length-replicate {A = ℕ} 128 0, λ k h. absurd (omega arith))
 
 mul-holding : tie.Need-mul-holding Inv-loop μ-loop
 mul-holding c = search needs
@@ -44,13 +44,12 @@ loop-again c =
     let l = c .before .before .loop in
     let w = c .before .before .before .args .w in
     let h = c .holding in (
-      search needs,
-      simp length-set (l .inv .1),
-      below-set (λ k. PairWord (w * 8 + k % 8) (k / 8)) (l .rows) (l .at) (h .result) (omega arith) (l .inv .2) (h .ensures),
+      simp length-set (l .inv .0),
+      below-set (λ k. PairWord (w * 8 + k % 8) (k / 8)) (l .rows) (l .at) (h .result) (omega arith) (l .inv .1) (h .ensures),
     )
 
 returns : tie.Need-returns Inv-loop μ-loop
-returns c = rows-law (λ t h. c .before .loop .inv .2 t (omega arith))
+returns c = rows-law (λ t h. c .before .loop .inv .1 t (omega arith))
 
 pub pair-rows-spec : {M : Type 1} → statement M
 pair-rows-spec =

@@ -1,5 +1,5 @@
 -- The loop's invariant: for the pair and for its name, what the rows have and what is still to come.
-use Prim.Native.Nat.{_-_, _/_, _≤_}
+use Prim.Native.Nat.{_-_, _/_}
 use mathlib.Core.Path.{refl, ap}
 use mathlib.Core.Logic.{⊎-elim}
 use lib.Dec.{eqb}
@@ -13,7 +13,7 @@ use Rattle.table.proofs.judge.atom.Tie as tie
 
 abbrev Inv-loop : tie.InvT-loop
 Inv-loop pairs rows pair next held₀ named₀ i₀ held named i =
-    (i ≤ length pairs) × Passed (λ y. eqb y pair) pairs rows held i × Passed (λ y. eqb (y / 65536) (pair / 65536)) pairs rows named i
+    Passed (λ y. eqb y pair) pairs rows held i × Passed (λ y. eqb (y / 65536) (pair / 65536)) pairs rows named i
 
 abbrev μ-loop : tie.MeasureT-loop
 μ-loop pairs rows pair next held₀ named₀ i₀ held named i = length pairs - i
@@ -25,7 +25,7 @@ same-requires-2 : tie.Need-same-requires-2 Inv-loop μ-loop
 same-requires-2 c κs = search needs
 
 loop-holds : tie.Need-loop-holds Inv-loop μ-loop
-loop-holds c = (search needs, pass-start _ _ _ (c .before .same .ensures), pass-start _ _ _ (c .same2 .ensures))
+loop-holds c = (pass-start _ _ _ (c .before .same .ensures), pass-start _ _ _ (c .same2 .ensures))
 
 mul-if1 : tie.Need-mul-if1 Inv-loop μ-loop
 mul-if1 c = search needs
@@ -60,20 +60,17 @@ loop-again c =
     let l = c .before .before .loop-test .taken in
     ⊎-elim
     (λ w. rw (w .6, w .7) (
-      search needs,
-      pass-with (v .1) l (eq-eqb _ _ (w .4 .taken)) (w .1 .ensures) (w .5 .ensures),
-      pass-with (v .2) l (eq-eqb _ _ (w .0 .taken)) (w .1 .ensures) (w .2 .ensures),
+      pass-with (v .0) l (eq-eqb _ _ (w .4 .taken)) (w .1 .ensures) (w .5 .ensures),
+      pass-with (v .1) l (eq-eqb _ _ (w .0 .taken)) (w .1 .ensures) (w .2 .ensures),
     ))
     (⊎-elim
     (λ w. rw (w .5, w .6) (
-      search needs,
-      pass-over (v .1) l (ne-eqb _ _ (w .4 .left)),
-      pass-with (v .2) l (eq-eqb _ _ (w .0 .taken)) (w .1 .ensures) (w .2 .ensures),
+      pass-over (v .0) l (ne-eqb _ _ (w .4 .left)),
+      pass-with (v .1) l (eq-eqb _ _ (w .0 .taken)) (w .1 .ensures) (w .2 .ensures),
     ))
     (λ w. rw (w .1, w .2) (
-      search needs,
-      pass-over (v .1) l (ne-eqb _ _ (λ e. w .0 .left (ap (λ x. x / 65536) e))),
-      pass-over (v .2) l (ne-eqb _ _ (w .0 .left)),
+      pass-over (v .0) l (ne-eqb _ _ (λ e. w .0 .left (ap (λ x. x / 65536) e))),
+      pass-over (v .1) l (ne-eqb _ _ (w .0 .left)),
     )))
     (c .if1 .came)
 
@@ -86,7 +83,7 @@ and-requires c κs = search needs
 returns : tie.Need-returns Inv-loop μ-loop
 returns c =
     let v = c .before .before .before .loop .inv in
-    let a = atom-law _ _ (search needs) (v .1) (v .2) (c .before .not .ensures) (c .and .ensures) in
+    let a = atom-law _ _ (search needs) (v .0) (v .1) (c .before .not .ensures) (c .and .ensures) in
     (shows-values a, shows-apart a, refl)
 
 pub atom-spec : {M : Type 1} → statement M

@@ -1,0 +1,77 @@
+-- `report` is safe and ends: what `list_pairs` promises keeps the pairs within the 254 numbers lent.
+use Prim.Native.Nat.{ℕ, _≤_}
+use mathlib.Core.Path.{_≡_, sym}
+use mathlib.Core.List.{List}
+use native.Mathlib.Omega.{arith}
+use lib.ListN.{length}
+use lib.Seq.{length-take-le}
+use Rattle.sinkheron.specs.ListPairs.{Paper, Lists, policy-refused, too-small, listed}
+use borrow.Author.Needs.{needs}
+use Rattle.report.proofs.report.Statement.{statement}
+use Rattle.report.proofs.report.Tie as tie
+use Rattle.report.proofs.report.Reads as reads
+use Rattle.report.proofs.report.Lts as lts
+use Rattle.report.proofs.refusal_line.Reads as refusal-line-reads
+use Rattle.report.proofs.report_on.Reads as report-on-reads
+use Rattle.sinkheron.proofs.list_pairs.Reads as list-pairs-reads
+
+-- the list has no more pairs than the slice that was lent for it
+few : {file before after : List ℕ} {x : Paper} → Lists file before x after → x .pairs ≤ length before
+few (policy-refused e) = omega arith
+few (too-small p ps h) = omega arith
+few (listed p ps h) = h
+
+abbrev cs : lts.Claims
+cs =
+    (list-pairs-reads.Asked, list-pairs-reads.Learnt, refusal-line-reads.Asked, refusal-line-reads.Learnt, report-on-reads.Asked, report-on-reads.Learnt)
+
+-- so the count that was answered is within the array
+fits : (c : lts.After-count cs reads.Pre reads.Post) → c .count .given .0 .0 ≤ length (c .before .before .before .list-pairs .last .1 .0)
+fits c =
+    let l : length (c .before .before .before .list-pairs .last .1 .0) ≡ 254 = search needs in
+    omega (arith, rw (c .count .given .1) at (few (c .before .before .before .list-pairs .ensures)))
+
+slice-aggregate-list-pairs : tie.Need-slice-aggregate-list-pairs
+slice-aggregate-list-pairs c = search needs
+
+list-pairs-requires : tie.Need-list-pairs-requires
+list-pairs-requires c κs = search needs
+
+enum-known-number : tie.Need-enum-known-number
+enum-known-number c = search needs
+
+refusal-line-requires : tie.Need-refusal-line-requires
+refusal-line-requires c κs = search needs
+
+enum-known-count : tie.Need-enum-known-count
+enum-known-count c = search needs
+
+array-share-prefix-pairs : tie.Need-array-share-prefix-pairs
+array-share-prefix-pairs c = fits (c .before)
+
+slice-aggregate-report-on : tie.Need-slice-aggregate-report-on
+slice-aggregate-report-on c = sym (length-take-le _ _ (fits (c .before .before)))
+
+report-on-requires : tie.Need-report-on-requires
+report-on-requires c κs = search needs
+
+returns : tie.Need-returns
+returns c = search needs
+
+returns-2 : tie.Need-returns-2
+returns-2 c = search needs
+
+pub report-spec : {M : Type 1} → statement M
+report-spec =
+    tie.close
+    (tie.spec
+    slice-aggregate-list-pairs
+    list-pairs-requires
+    enum-known-number
+    refusal-line-requires
+    enum-known-count
+    array-share-prefix-pairs
+    slice-aggregate-report-on
+    report-on-requires
+    returns
+    returns-2)

@@ -1,0 +1,85 @@
+// The C face: byte blocks and lengths in, one packed word out.
+ghost use mathlib.Core.Path.{_≡_};
+ghost use Prim.Native.Nat.{_+_, _*_, _^_, _<_, _≤_};
+ghost use Rattle.sinkheron.specs.Decide as D;
+ghost use Rattle.sinkheron.specs.ListPairs as L;
+ghost use Rattle.sinkheron.specs.NormalForm as N;
+ghost use Rattle.sinkheron.specs.Certify as C;
+ghost use Rattle.sinkheron.specs.Search as S;
+ghost use Rattle.sinkheron.specs.Word.{decideWord, listPairsWord, normalFormWord, certifyWord, searchWord, Says};
+use crate::Certified;
+use crate::Decision;
+use crate::Listing;
+use crate::Normalised;
+use crate::Searched;
+
+// A refusal's number and place.
+fn refusal(number: u8, place: usize) -> u64
+    requires { ⌜ place ≤ 65538 ⌝ }
+    ensures { λ r. ⌜ r ≡ number + place * 2 ^ 8 ⌝ }
+{
+    number as u64 + place as u64 * 256
+}
+
+// An exposure's pairs, bytes, m and i, below the verdict's bit.
+fn exposure(pairs: usize, bytes: usize, m: usize, i: usize) -> u64
+    requires { ⌜ (pairs ≤ 16) × (bytes ≤ 130) × (m < 65536) × (i < 16) ⌝ }
+    ensures { λ r. ⌜ r ≡ 1 * 2 ^ 8 + pairs * 2 ^ 16 + bytes * 2 ^ 24 + m * 2 ^ 32 + i * 2 ^ 48 ⌝ }
+{
+    256
+        + pairs as u64 * 65536
+        + bytes as u64 * 16777216
+        + m as u64 * 4294967296
+        + i as u64 * 281474976710656
+}
+
+#[no_mangle]
+pub extern "C" fn sinkheron_decide(policy: &[u8], request: &[u8]) -> u64
+    ensures { λ r. ⌜ Says decideWord (D.Decides (now (policy .entry)) (now (request .entry))) r ⌝ }
+{
+    match crate::decide(policy, request) {
+        Decision::Refused { number, place } => refusal(number, place),
+        Decision::Decided(set) => set.code as u64 * 256,
+    }
+}
+
+#[no_mangle]
+pub extern "C" fn sinkheron_list_pairs(policy: &[u8], pairs: &mut [u32]) -> u64
+    ensures { λ r. ⌜ Says listPairsWord (λ x. L.Lists (now (policy .entry)) (now (pairs .entry)) x (now (pairs .exit))) r ⌝ }
+{
+    match crate::list_pairs(policy, pairs) {
+        Listing::Refused { number, place } => refusal(number, place),
+        Listing::Listed { pairs: count } => count as u64 * 65536,
+    }
+}
+
+#[no_mangle]
+pub extern "C" fn sinkheron_normal_form(policy: &[u8], request: &[u8], space: &mut [u8]) -> u64
+    ensures { λ r. ⌜ Says normalFormWord (λ x. N.Normalises (now (policy .entry)) (now (request .entry)) (now (space .entry)) x (now (space .exit))) r ⌝ }
+{
+    match crate::normal_form(policy, request, space) {
+        Normalised::Refused { number, place } => refusal(number, place),
+        Normalised::Written { bytes } => bytes as u64 * 4294967296,
+    }
+}
+
+#[no_mangle]
+pub extern "C" fn sinkheron_certify(policy: &[u8]) -> u64
+    ensures { λ r. ⌜ Says certifyWord (C.Certifies (now (policy .entry))) r ⌝ }
+{
+    match crate::certify(policy) {
+        Certified::Refused { number, place } => refusal(number, place),
+        Certified::By { rule } => rule as u64 * 4096,
+    }
+}
+
+#[no_mangle]
+pub extern "C" fn sinkheron_search(policy: &[u8], space: &mut [u8]) -> u64
+    ensures { λ r. ⌜ Says searchWord (λ x. S.Searches (now (policy .entry)) (now (space .entry)) x (now (space .exit))) r ⌝ }
+{
+    match crate::search(policy, space) {
+        Searched::Refused { number, place } => refusal(number, place),
+        Searched::Resistant { pairs } => pairs as u64 * 65536,
+        Searched::Exposed { pairs, m, i, bytes } => exposure(pairs, bytes, m, i),
+    }
+}

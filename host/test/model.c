@@ -1,0 +1,392 @@
+#include "model.h"
+
+#include <string.h>
+
+enum { ONE, ZERO, UNDEFINED };
+
+/* ---- files: a policy as an array of nodes, each with its parts' numbers */
+
+struct node {
+    uint8_t tag;
+    uint32_t pair;
+    int first, second;
+};
+
+struct policy {
+    int count;
+    struct node node[256];
+};
+
+struct request {
+    int count;
+    uint32_t pair[256];
+};
+
+static struct answer refuse(unsigned number, size_t place)
+{
+    struct answer a = {0};
+    a.number = number;
+    a.place = place;
+    return a;
+}
+
+static struct answer frame(unsigned first, const uint8_t *file, size_t len)
+{
+    if (len < 3)
+        return refuse(first, len);
+    if (file[0] != 1)
+        return refuse(first + 1, 0);
+    if ((size_t)file[1] * 256 + file[2] != len - 3)
+        return refuse(first + 2, 1);
+    return refuse(0, 0);
+}
+
+static uint32_t big32(const uint8_t *at)
+{
+    return (uint32_t)at[0] << 24 | (uint32_t)at[1] << 16 | (uint32_t)at[2] << 8 | at[3];
+}
+
+/* Parses without recursion: a stack of slots that wait for a term, the one due next on top. */
+static struct answer parse(const uint8_t *file, size_t len, struct policy *p)
+{
+    struct { int parent, second, target, depth; } due[520];
+    int waiting = 1;
+    size_t at = 3;
+    struct answer a = frame(1, file, len);
+    if (a.number != 0)
+        return a;
+    p->count = 0;
+    due[0].parent = -1;
+    due[0].second = 0;
+    due[0].target = 0;
+    due[0].depth = 1;
+    while (waiting > 0) {
+        waiting--;
+        int parent = due[waiting].parent, second = due[waiting].second;
+        int target = due[waiting].target, depth = due[waiting].depth;
+        if (at >= len)
+            return refuse(4, len);
+        uint8_t tag = file[at];
+        int known = target ? (tag >= 0x10 && tag <= 0x13) : (tag >= 0x20 && tag <= 0x25);
+        if (!known)
+            return refuse(5, at);
+        if (depth > 32)
+            return refuse(6, at);
+        if (p->count >= 255)
+            return refuse(7, at);
+        int me = p->count++;
+        p->node[me].tag = tag;
+        p->node[me].first = p->node[me].second = -1;
+        if (parent >= 0) {
+            if (second)
+                p->node[parent].second = me;
+            else
+                p->node[parent].first = me;
+        }
+        if (tag == 0x10) {
+            if (len - at < 5)
+                return refuse(4, len);
+            p->node[me].pair = big32(file + at + 1);
+            at += 5;
+            continue;
+        }
+        at++;
+        int parts = tag == 0x20 || tag == 0x21 ? 0 : tag == 0x13 || tag == 0x22 || tag == 0x25 ? 2 : 1;
+        for (int part = parts; part > 0; part--) {
+            due[waiting].parent = me;
+            due[waiting].second = part == 2;
+            due[waiting].target = target || (tag == 0x22 && part == 1);
+            due[waiting].depth = depth + 1;
+            waiting++;
+        }
+    }
+    return at < len ? refuse(8, at) : refuse(0, 0);
+}
+
+static struct answer read_request(const uint8_t *file, size_t len, struct request *q)
+{
+    struct answer a = frame(21, file, len);
+    if (a.number != 0)
+        return a;
+    if ((len - 3) % 4 != 0)
+        return refuse(24, 3);
+    if ((len - 3) / 4 > 256)
+        return refuse(25, 1027);
+    q->count = (int)((len - 3) / 4);
+    for (int i = 0; i < q->count; i++)
+        q->pair[i] = big32(file + 3 + 4 * i);
+    for (int i = 1; i < q->count; i++)
+        if (q->pair[i] <= q->pair[i - 1])
+            return refuse(26, (size_t)(3 + 4 * i));
+    return refuse(0, 0);
+}
+
+/* ---- meaning, by goal: what a target is, and whether a policy may come to a value */
+
+static int target_value(const struct policy *p, int n, const struct request *q)
+{
+    const struct node *t = &p->node[n];
+    int a, b, named = 0;
+    switch (t->tag) {
+    case 0x10:
+        for (int i = 0; i < q->count; i++) {
+            if (q->pair[i] == t->pair)
+                return ONE;
+            named |= q->pair[i] >> 16 == t->pair >> 16;
+        }
+        return named ? ZERO : UNDEFINED;
+    case 0x11:
+        a = target_value(p, t->first, q);
+        return a == UNDEFINED ? UNDEFINED : 1 - a;
+    case 0x12:
+        a = target_value(p, t->first, q);
+        return a == UNDEFINED ? ZERO : a;
+    default:
+        a = target_value(p, t->first, q);
+        b = target_value(p, t->second, q);
+        return a == ZERO || b == ZERO ? ZERO : a == UNDEFINED || b == UNDEFINED ? UNDEFINED : ONE;
+    }
+}
+
+static int may(const struct policy *p, int n, const struct request *q, int v)
+{
+    const struct node *t = &p->node[n];
+    int a, b, c;
+    switch (t->tag) {
+    case 0x20: return v == ZERO;
+    case 0x21: return v == ONE;
+    case 0x22:
+        a = target_value(p, t->first, q);
+        return a == ONE ? may(p, t->second, q, v) : v == UNDEFINED || (a == UNDEFINED && may(p, t->second, q, v));
+    case 0x23: return may(p, t->first, q, v == UNDEFINED ? UNDEFINED : 1 - v);
+    case 0x24: return v != UNDEFINED && (may(p, t->first, q, v) || (v == ZERO && may(p, t->first, q, UNDEFINED)));
+    default:
+        if (v == ONE)
+            return may(p, t->first, q, ONE) && may(p, t->second, q, ONE);
+        if (v == ZERO)
+            return may(p, t->first, q, ZERO) || may(p, t->second, q, ZERO);
+        a = may(p, t->first, q, UNDEFINED);
+        b = may(p, t->second, q, UNDEFINED);
+        if (a && b)
+            return 1;
+        c = a ? may(p, t->second, q, ONE) : b ? may(p, t->first, q, ONE) : 0;
+        return c;
+    }
+}
+
+static unsigned set_of(const struct policy *p, const struct request *q)
+{
+    return (unsigned)(may(p, 0, q, ONE) | may(p, 0, q, ZERO) << 1 | may(p, 0, q, UNDEFINED) << 2);
+}
+
+/* ---- pairs, by repeated selection of the smallest that is left */
+
+static int names(const struct policy *p, uint32_t pair)
+{
+    for (int i = 0; i < p->count; i++)
+        if (p->node[i].tag == 0x10 && p->node[i].pair == pair)
+            return 1;
+    return 0;
+}
+
+static uint32_t fresh(const struct policy *p, uint32_t name)
+{
+    uint32_t value = 0;
+    while (names(p, name << 16 | value))
+        value++;
+    return name << 16 | value;
+}
+
+static int pairs_of(const struct policy *p, uint32_t *into)
+{
+    int count = 0;
+    for (;;) {
+        int found = 0;
+        uint32_t best = 0;
+        for (int i = 0; i < p->count; i++) {
+            if (p->node[i].tag != 0x10)
+                continue;
+            uint32_t two[2] = {p->node[i].pair, fresh(p, p->node[i].pair >> 16)};
+            for (int k = 0; k < 2; k++)
+                if ((count == 0 || two[k] > into[count - 1]) && (!found || two[k] < best)) {
+                    found = 1;
+                    best = two[k];
+                }
+        }
+        if (!found)
+            return count;
+        into[count++] = best;
+    }
+}
+
+static size_t write_file(const uint32_t *pair, int count, uint8_t *into)
+{
+    into[0] = 1;
+    into[1] = (uint8_t)(count * 4 >> 8);
+    into[2] = (uint8_t)(count * 4);
+    for (int i = 0; i < count; i++)
+        for (int k = 0; k < 4; k++)
+            into[3 + 4 * i + k] = (uint8_t)(pair[i] >> (24 - 8 * k));
+    return (size_t)(3 + 4 * count);
+}
+
+/* ---- structural rules */
+
+static int never(const struct policy *p, int n, int v)
+{
+    const struct node *t = &p->node[n];
+    switch (t->tag) {
+    case 0x20: return v == ONE;
+    case 0x21: return v == ZERO;
+    case 0x22: return never(p, t->second, v);
+    case 0x23: return never(p, t->first, 1 - v);
+    case 0x24: return v == ONE && never(p, t->first, ONE);
+    default:
+        return v == ONE ? never(p, t->first, v) || never(p, t->second, v) : never(p, t->first, v) && never(p, t->second, v);
+    }
+}
+
+static int lacks(const struct policy *p, int n, uint8_t tag)
+{
+    if (n < 0)
+        return 1;
+    return p->node[n].tag != tag && lacks(p, p->node[n].first, tag) && lacks(p, p->node[n].second, tag);
+}
+
+static unsigned rule(const struct policy *p, int n)
+{
+    int plain = lacks(p, n, 0x11);
+    if (never(p, n, ONE))
+        return 1;
+    if (lacks(p, n, 0x22))
+        return 2;
+    if (plain && lacks(p, n, 0x24))
+        return 3;
+    if (plain && lacks(p, n, 0x23))
+        return 4;
+    if (p->node[n].tag == 0x24 && rule(p, p->node[n].first))
+        return 5;
+    if (p->node[n].tag == 0x25 && rule(p, p->node[n].first) && rule(p, p->node[n].second))
+        return 6;
+    return 0;
+}
+
+/* ---- the five operations */
+
+struct answer model_decide(const uint8_t *policy, size_t policy_len, const uint8_t *request, size_t request_len)
+{
+    struct policy p;
+    struct request q;
+    struct answer a = parse(policy, policy_len, &p);
+    if (a.number == 0)
+        a = read_request(request, request_len, &q);
+    if (a.number == 0)
+        a.set = set_of(&p, &q);
+    return a;
+}
+
+struct answer model_list_pairs(const uint8_t *policy, size_t policy_len, uint32_t *pairs, size_t pairs_len)
+{
+    struct policy p;
+    uint32_t list[256];
+    struct answer a = parse(policy, policy_len, &p);
+    if (a.number != 0)
+        return a;
+    int count = pairs_of(&p, list);
+    if (pairs_len < (size_t)count)
+        return refuse(13, 0);
+    memcpy(pairs, list, (size_t)count * sizeof *list);
+    a.pairs = (unsigned)count;
+    return a;
+}
+
+struct answer model_normal_form(const uint8_t *policy, size_t policy_len, const uint8_t *request, size_t request_len, uint8_t *space,
+                                size_t space_len)
+{
+    struct policy p;
+    struct request q;
+    uint32_t list[256], kept[256];
+    int n = 0;
+    struct answer a = parse(policy, policy_len, &p);
+    if (a.number == 0)
+        a = read_request(request, request_len, &q);
+    if (a.number != 0)
+        return a;
+    int count = pairs_of(&p, list);
+    for (int i = 0; i < count; i++) {
+        int in = 0, named = names(&p, list[i]);
+        for (int k = 0; k < q.count; k++)
+            in |= named ? q.pair[k] == list[i] : q.pair[k] >> 16 == list[i] >> 16 && !names(&p, q.pair[k]);
+        if (in)
+            kept[n++] = list[i];
+    }
+    if (space_len < (size_t)(3 + 4 * n))
+        return refuse(13, 0);
+    a.bytes = write_file(kept, n, space);
+    return a;
+}
+
+struct answer model_certify(const uint8_t *policy, size_t policy_len)
+{
+    struct policy p;
+    struct answer a = parse(policy, policy_len, &p);
+    if (a.number == 0)
+        a.rule = rule(&p, 0);
+    return a;
+}
+
+static struct request subset(const uint32_t *list, int count, unsigned m)
+{
+    struct request q;
+    q.count = 0;
+    for (int i = 0; i < count; i++)
+        if (m >> i & 1)
+            q.pair[q.count++] = list[i];
+    return q;
+}
+
+/* One subset within another, with pairs to spare: by the definition of resistance, not by single steps. */
+static int some_pair_exposes(const uint8_t *allowed, int count)
+{
+    for (unsigned larger = 0; larger < 1u << count; larger++)
+        if (!allowed[larger])
+            for (unsigned smaller = larger; smaller > 0; smaller = (smaller - 1) & larger)
+                if (allowed[(smaller - 1) & larger])
+                    return 1;
+    return 0;
+}
+
+struct answer model_search(const uint8_t *policy, size_t policy_len, uint8_t *space, size_t space_len)
+{
+    static uint8_t allowed[65536];
+    struct policy p;
+    uint32_t list[256];
+    struct answer a = parse(policy, policy_len, &p);
+    if (a.number != 0)
+        return a;
+    int count = pairs_of(&p, list);
+    if (count > 16)
+        return refuse(12, 0);
+    if (space_len < 130)
+        return refuse(13, 0);
+    a.pairs = (unsigned)count;
+    for (unsigned m = 0; m < 1u << count; m++) {
+        struct request q = subset(list, count, m);
+        allowed[m] = set_of(&p, &q) == 1;
+    }
+    for (unsigned m = 0; m < 1u << count && !a.verdict; m++)
+        for (unsigned i = 0; i < (unsigned)count && !a.verdict; i++)
+            if (!allowed[m] && (m >> i & 1) && allowed[m & ~(1u << i)]) {
+                a.verdict = 1;
+                a.subset = m;
+                a.hides = i;
+            }
+    if (count <= 8 && some_pair_exposes(allowed, count) != (int)a.verdict)
+        return refuse(255, 0); /* the model disagrees with itself */
+    if (a.verdict) {
+        struct request less = subset(list, count, a.subset & ~(1u << a.hides)), more = subset(list, count, a.subset);
+        a.bytes = write_file(less.pair, less.count, space);
+        a.bytes += write_file(more.pair, more.count, space + a.bytes);
+    }
+    return a;
+}
