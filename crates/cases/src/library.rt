@@ -1,0 +1,54 @@
+// The five operations by the library, the first `room` numbers or bytes of the memory lent.
+use crate::answer;
+use crate::answer::Answer;
+use crate::arrays::wide;
+use sinkheron::Certified;
+use sinkheron::Decision;
+use sinkheron::Listing;
+use sinkheron::Normalised;
+use sinkheron::Searched;
+
+pub fn decide(policy: &[u8], request: &[u8]) -> Answer {
+    match sinkheron::decide(policy, request) {
+        Decision::Refused { number, place } => answer::refused(wide(number), place),
+        Decision::Decided(set) => answer::decided(wide(set.code)),
+    }
+}
+
+pub fn list_pairs(policy: &[u8], pairs: &mut [u32], room: usize) -> Answer {
+    if pairs.len() < room {
+        return answer::refused(99, 0);
+    }
+    match sinkheron::list_pairs(policy, &mut pairs[..room]) {
+        Listing::Refused { number, place } => answer::refused(wide(number), place),
+        Listing::Listed { pairs: count } => answer::listed(count),
+    }
+}
+
+pub fn normal_form(policy: &[u8], request: &[u8], space: &mut [u8], room: usize) -> Answer {
+    if space.len() < room {
+        return answer::refused(99, 0);
+    }
+    match sinkheron::normal_form(policy, request, &mut space[..room]) {
+        Normalised::Refused { number, place } => answer::refused(wide(number), place),
+        Normalised::Written { bytes } => answer::written(bytes),
+    }
+}
+
+pub fn certify(policy: &[u8]) -> Answer {
+    match sinkheron::certify(policy) {
+        Certified::Refused { number, place } => answer::refused(wide(number), place),
+        Certified::By { rule } => answer::certified(wide(rule)),
+    }
+}
+
+pub fn search(policy: &[u8], space: &mut [u8], room: usize) -> Answer {
+    if space.len() < room {
+        return answer::refused(99, 0);
+    }
+    match sinkheron::search(policy, &mut space[..room]) {
+        Searched::Refused { number, place } => answer::refused(wide(number), place),
+        Searched::Resistant { pairs } => answer::listed(pairs),
+        Searched::Exposed { pairs, m, i, bytes } => answer::exposed(pairs, m, i, bytes),
+    }
+}

@@ -1,0 +1,203 @@
+// A policy as numbered nodes in the order of the file, read without recursion: a stack holds the parts that are due.
+use crate::arrays::Table;
+use crate::arrays::big;
+use crate::arrays::byte;
+use crate::arrays::get;
+use crate::arrays::plus;
+use crate::arrays::put;
+
+// The columns of a node.
+pub const TAG: usize = 0;
+
+pub const FIRST: usize = 1;
+
+pub const SECOND: usize = 2;
+
+pub const PAIR: usize = 3;
+
+pub const FRESH: usize = 4;
+
+// No node has this number: it stands for a part that is not there.
+const NONE: usize = 255;
+
+// The columns of a part that is due: whose it is, which of its parts, 1 for a target, how deep.
+const PARENT: usize = 0;
+
+const PART: usize = 1;
+
+const SORT: usize = 2;
+
+const DEPTH: usize = 3;
+
+// What reading a file came to: a refusal's number and place, else 0 and 0 with the number of nodes or pairs.
+pub struct Outcome {
+    pub number: usize,
+    pub place: usize,
+    pub count: usize,
+}
+
+struct Parser {
+    at: usize,
+    count: usize,
+    waiting: usize,
+    number: usize,
+}
+
+pub fn refused(number: usize, place: usize) -> Outcome {
+    Outcome {
+        number,
+        place,
+        count: 0,
+    }
+}
+
+// What the first three bytes come to: the numbers of a file that is short, of another version, of another length.
+pub fn framed(file: &[u8], short: usize, version: usize, length: usize) -> Outcome {
+    let n = file.len();
+    if n < 3 {
+        return refused(short, n);
+    }
+    if byte(file, 0) != 1 {
+        return refused(version, 0);
+    }
+    if (byte(file, 1) << 8) | byte(file, 2) != n - 3 {
+        return refused(length, 1);
+    }
+    refused(0, 0)
+}
+
+fn is_tag(sort: usize, tag: usize) -> bool {
+    if sort == 1 {
+        0x10 <= tag && tag <= 0x13
+    } else {
+        0x20 <= tag && tag <= 0x25
+    }
+}
+
+fn parts(tag: usize) -> usize {
+    match tag {
+        0x10 | 0x20 | 0x21 => 0,
+        0x13 | 0x22 | 0x25 => 2,
+        _ => 1,
+    }
+}
+
+// The number of the refusal at one node, or 0, in document 01's order.
+fn fault(file: &[u8], at: usize, sort: usize, depth: usize, count: usize) -> usize {
+    let n = file.len();
+    let tag = byte(file, at);
+    if n <= at {
+        return 4;
+    }
+    if !is_tag(sort, tag) {
+        return 5;
+    }
+    if 32 < depth {
+        return 6;
+    }
+    if 255 <= count {
+        return 7;
+    }
+    if tag == 0x10 && n - at < 5 { 4 } else { 0 }
+}
+
+fn owe(due: &mut Table, i: usize, parent: usize, part: usize, sort: usize, depth: usize) {
+    put(due, i, PARENT, parent);
+    put(due, i, PART, part);
+    put(due, i, SORT, sort);
+    put(due, i, DEPTH, depth);
+}
+
+// Puts a node's parts on the stack, the first on top, and answers how high the stack is then.
+fn owe_parts(due: &mut Table, top: usize, node: usize, tag: usize, sort: usize) -> usize {
+    let depth = plus(get(due, top, DEPTH), 1);
+    let first = if tag == 0x22 { 1 } else { sort };
+    match parts(tag) {
+        0 => top,
+        1 => {
+            owe(due, top, node, FIRST, sort, depth);
+            plus(top, 1)
+        }
+        _ => {
+            owe(due, top, node, SECOND, sort, depth);
+            owe(due, plus(top, 1), node, FIRST, first, depth);
+            plus(top, 2)
+        }
+    }
+}
+
+// Reads the node that is due next.
+fn step(file: &[u8], nodes: &mut Table, due: &mut Table, s: Parser) -> Parser {
+    let at = s.at;
+    let count = s.count;
+    let waiting = s.waiting;
+    if s.number != 0 {
+        return s;
+    }
+    if waiting == 0 {
+        return s;
+    }
+    let top = waiting - 1;
+    let sort = get(due, top, SORT);
+    let number = fault(file, at, sort, get(due, top, DEPTH), count);
+    if number != 0 {
+        return Parser {
+            at,
+            count,
+            waiting,
+            number,
+        };
+    }
+    let tag = byte(file, at);
+    put(nodes, count, TAG, tag);
+    put(nodes, count, FIRST, NONE);
+    put(nodes, count, SECOND, NONE);
+    put(nodes, count, PAIR, big(file, plus(at, 1)));
+    put(nodes, get(due, top, PARENT), get(due, top, PART), count);
+    let width = if tag == 0x10 { 5 } else { 1 };
+    Parser {
+        at: plus(at, width),
+        count: plus(count, 1),
+        waiting: owe_parts(due, top, count, tag, sort),
+        number: 0,
+    }
+}
+
+// Each turn reads a node or is refused, and the 256th node is refused.
+fn steps(file: &[u8], nodes: &mut Table, due: &mut Table) -> Parser {
+    let mut s = Parser {
+        at: 3,
+        count: 0,
+        waiting: 1,
+        number: 0,
+    };
+    for _ in 0usize..256 {
+        s = step(file, nodes, due, s);
+    }
+    s
+}
+
+pub fn read(file: &[u8], nodes: &mut Table) -> Outcome {
+    let frame = framed(file, 1, 2, 3);
+    if frame.number != 0 {
+        return frame;
+    }
+    let mut due = [0usize; 2048];
+    owe(&mut due, 0, NONE, FIRST, 0, 1);
+    let s = steps(file, nodes, &mut due);
+    let n = file.len();
+    if s.number == 4 {
+        return refused(4, n);
+    }
+    if s.number != 0 {
+        return refused(s.number, s.at);
+    }
+    if s.at < n {
+        return refused(8, s.at);
+    }
+    Outcome {
+        number: 0,
+        place: 0,
+        count: s.count,
+    }
+}
