@@ -37,6 +37,10 @@ pub fn set(list: &mut List, i: usize, x: usize) {
     }
 }
 
+pub fn get_byte(bytes: &Bytes, i: usize) -> usize {
+    if i < 2048 { wide(bytes[i]) } else { 0 }
+}
+
 pub fn set_byte(bytes: &mut Bytes, i: usize, x: usize) {
     if i < 2048 {
         bytes[i] = (x % 256) as u8;
@@ -47,8 +51,12 @@ pub fn wide(x: u8) -> usize {
     x as usize
 }
 
+pub fn char_at(text: &[u8], i: usize) -> u8 {
+    if i < text.len() { text[i] } else { 0 }
+}
+
 pub fn byte(file: &[u8], i: usize) -> usize {
-    if i < file.len() { wide(file[i]) } else { 0 }
+    wide(char_at(file, i))
 }
 
 pub fn plus(a: usize, b: usize) -> usize {

@@ -4,7 +4,6 @@ use crate::answer::Answer;
 use crate::arrays::Bytes;
 use crate::arrays::same_bytes;
 use crate::arrays::same_numbers;
-use crate::arrays::set_byte;
 use crate::file::File;
 use crate::file::front;
 use crate::library;
@@ -20,12 +19,12 @@ pub const CERTIFY: usize = 4;
 
 pub const SEARCH: usize = 5;
 
-// How much memory is lent, and a number from which what stands in it is made.
+// How much memory is lent to an operation, and the byte of which it is full.
 pub struct Rooms {
     pub list: usize,
     pub normal: usize,
     pub search: usize,
-    pub seed: usize,
+    pub fill: u8,
 }
 
 pub struct Case {
@@ -34,73 +33,47 @@ pub struct Case {
     pub rooms: Rooms,
 }
 
-// An operation's answers.
+// What an operation came to: both answers, whether all agrees, and the library's memory if it is bytes.
 pub struct Both {
     pub library: Answer,
     pub model: Answer,
-    pub same: bool,
+    pub agree: bool,
+    pub memory: Bytes,
 }
 
-fn fill(bytes: &mut Bytes, seed: usize) {
-    for i in 0..2048 {
-        set_byte(bytes, i, (i << 3) ^ i ^ seed);
-    }
-}
-
-fn fill_numbers(numbers: &mut [u32; 256], seed: usize) {
-    for i in 0..256 {
-        model::set_number(numbers, i, (i << 9) ^ i ^ seed);
-    }
-}
-
-fn compared(library: Answer, model: Answer, same_memory: bool) -> Both {
+fn compared(library: Answer, model: Answer, memory: Bytes, same_memory: bool) -> Both {
     Both {
         library,
         model,
-        same: same_memory && answer::same(library, model),
+        agree: same_memory && answer::same(library, model),
+        memory,
     }
 }
 
-fn lend_numbers(policy: &[u8], room: usize, seed: usize) -> Both {
-    let mut theirs = [0u32; 256];
-    let mut ours = [0u32; 256];
-    fill_numbers(&mut theirs, seed);
-    fill_numbers(&mut ours, seed);
-    let library = list_library(policy, &mut theirs, room);
+fn list_pairs(policy: &[u8], room: usize, fill: u8) -> Both {
+    let mut theirs = [fill as u32; 256];
+    let mut ours = [fill as u32; 256];
+    let library = library::list_pairs(policy, &mut theirs, room);
     let model = model::list_pairs(policy, &mut ours, room);
-    compared(library, model, same_numbers(&theirs, &ours))
+    compared(library, model, [0u8; 2048], same_numbers(&theirs, &ours))
 }
 
-fn list_library(policy: &[u8], pairs: &mut [u32; 256], room: usize) -> Answer {
-    library::list_pairs(policy, pairs, room)
-}
-
-fn normal_library(policy: &[u8], request: &[u8], space: &mut Bytes, room: usize) -> Answer {
-    library::normal_form(policy, request, space, room)
-}
-
-fn search_library(policy: &[u8], space: &mut Bytes, room: usize) -> Answer {
-    library::search(policy, space, room)
-}
-
-fn lend_normal(policy: &[u8], request: &[u8], room: usize, seed: usize) -> Both {
-    let mut theirs = [0u8; 2048];
-    let mut ours = [0u8; 2048];
-    fill(&mut theirs, seed);
-    fill(&mut ours, seed);
-    let library = normal_library(policy, request, &mut theirs, room);
+fn normal_form(policy: &[u8], request: &[u8], room: usize, fill: u8) -> Both {
+    let mut theirs = [fill; 2048];
+    let mut ours = [fill; 2048];
+    let library = library::normal_form(policy, request, &mut theirs, room);
     let model = model::normal_form(policy, request, &mut ours, room);
-    compared(library, model, same_bytes(&theirs, &ours))
+    let is_same = same_bytes(&theirs, &ours);
+    compared(library, model, theirs, is_same)
 }
 
-fn lend_search(policy: &[u8], room: usize, seed: usize) -> Both {
-    let mut theirs = [0u8; 2048];
-    let mut ours = [0u8; 2048];
-    fill(&mut theirs, seed);
-    fill(&mut ours, seed);
-    let library = search_library(policy, &mut theirs, room);
+fn search(policy: &[u8], room: usize, fill: u8) -> Both {
+    let mut theirs = [fill; 2048];
+    let mut ours = [fill; 2048];
+    let library = library::search(policy, &mut theirs, room);
     let model = model::search(policy, &mut ours, room);
-    compared(library, model, same_bytes(&theirs, &ours))
+    let is_same = same_bytes(&theirs, &ours);
+    compared(library, model, theirs, is_same)
 }
 
 fn run_on(operation: usize, policy: &[u8], request: &[u8], rooms: Rooms) -> Both {
@@ -108,16 +81,21 @@ fn run_on(operation: usize, policy: &[u8], request: &[u8], rooms: Rooms) -> Both
         DECIDE => compared(
             library::decide(policy, request),
             model::decide(policy, request),
+            [0u8; 2048],
             true,
         ),
-        LIST_PAIRS => lend_numbers(policy, rooms.list, rooms.seed),
-        NORMAL_FORM => lend_normal(policy, request, rooms.normal, rooms.seed),
-        CERTIFY => compared(library::certify(policy), model::certify(policy), true),
-        _ => lend_search(policy, rooms.search, rooms.seed),
+        LIST_PAIRS => list_pairs(policy, rooms.list, rooms.fill),
+        NORMAL_FORM => normal_form(policy, request, rooms.normal, rooms.fill),
+        CERTIFY => compared(
+            library::certify(policy),
+            model::certify(policy),
+            [0u8; 2048],
+            true,
+        ),
+        _ => search(policy, rooms.search, rooms.fill),
     }
 }
 
-// What an operation comes to on both sides.
 pub fn run(operation: usize, case: Case) -> Both {
     let p = case.policy;
     let q = case.request;

@@ -1,7 +1,5 @@
 // Files under construction, of at most 2,048 bytes.
 use crate::arrays::Bytes;
-use crate::arrays::byte;
-use crate::arrays::plus;
 use crate::arrays::set_byte;
 
 pub struct File {
@@ -14,10 +12,10 @@ pub fn front(bytes: &[u8], n: usize) -> &[u8] {
     if n <= bytes.len() { &bytes[..n] } else { bytes }
 }
 
-pub fn empty() -> File {
+pub fn zeros(len: usize) -> File {
     File {
         bytes: [0u8; 2048],
-        len: 0,
+        len,
     }
 }
 
@@ -40,39 +38,14 @@ pub fn add_byte(f: File, x: usize) -> File {
     of_length(altered(f, len, x), len + 1)
 }
 
-pub fn add(f: File, more: &[u8]) -> File {
-    let mut file = f;
-    for i in 0..more.len() {
-        file = add_byte(file, byte(more, i));
-    }
-    file
-}
-
-pub fn add_times(f: File, more: &[u8], times: usize) -> File {
-    let mut file = f;
-    for _ in 0..times {
-        file = add(file, more);
-    }
-    file
-}
-
 // A name and a value.
 pub fn add_pair(f: File, pair: usize) -> File {
     let high = add_byte(add_byte(f, pair >> 24), pair >> 16);
     add_byte(add_byte(high, pair >> 8), pair)
 }
 
-// The version byte and the length that it has.
+// The version byte, and the length that the file has.
 pub fn stated(f: File) -> File {
     let body = if f.len < 3 { 0 } else { f.len - 3 };
     altered(altered(altered(f, 0, 1), 1, body >> 8), 2, body)
-}
-
-// A file of that body: `stated` is still to come.
-pub fn begun(body: &[u8]) -> File {
-    add(of_length(empty(), 3), body)
-}
-
-pub fn whole(body: &[u8]) -> File {
-    stated(begun(body))
 }

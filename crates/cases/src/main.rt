@@ -15,8 +15,10 @@ mod rules;
 mod subsets;
 mod tally;
 mod term;
+mod text;
 
 use arrays::plus;
+use libc::STDIN_FILENO;
 use libc::STDOUT_FILENO;
 use tally::Tally;
 use tally::count_of;
@@ -55,7 +57,7 @@ fn disagreement(tally: &Tally, group: usize) {
 
 fn generated(tally: &mut Tally) {
     let mut seed = 88172645463325252;
-    for _ in 0usize..3000 {
+    for _ in 0usize..10000 {
         let case = generate::case(&mut seed);
         let first = tally::first_to_disagree(tally, case);
         tally::record(tally, tally::GENERATED, first);
@@ -90,8 +92,10 @@ fn report_first(tally: &Tally) {
 }
 
 fn main() {
+    let mut text = io::large_buffer();
+    let n = io::read_full(STDIN_FILENO, &mut text);
     let mut tally = [0usize; 64];
-    fixed::all(&mut tally);
+    fixed::all(&mut tally, &text[..n]);
     generated(&mut tally);
     say(b"fixed");
     counts(&tally, tally::FIXED);

@@ -80,27 +80,13 @@ fn may(nodes: &Table, facts: &Facts, n: usize, v: usize) -> bool {
 }
 
 fn judge(nodes: &Table, held: &List, count: usize, facts: &mut Facts, n: usize) {
-    let is_atom = get(nodes, n, TAG) == 0x10;
-    let v = if is_atom {
-        atom(held, count, get(nodes, n, PAIR))
-    } else {
-        ZERO
-    };
-    let zero = if is_atom {
-        v == ZERO
-    } else {
-        may(nodes, facts, n, ZERO)
-    };
-    let one = if is_atom {
-        v == ONE
-    } else {
-        may(nodes, facts, n, ONE)
-    };
-    let undefined = if is_atom {
-        v == UNDEFINED
-    } else {
-        may(nodes, facts, n, UNDEFINED)
-    };
+    if get(nodes, n, TAG) == 0x10 {
+        note(facts, n, atom(held, count, get(nodes, n, PAIR)), true);
+        return;
+    }
+    let zero = may(nodes, facts, n, ZERO);
+    let one = may(nodes, facts, n, ONE);
+    let undefined = may(nodes, facts, n, UNDEFINED);
     note(facts, n, ZERO, zero);
     note(facts, n, ONE, one);
     note(facts, n, UNDEFINED, undefined);

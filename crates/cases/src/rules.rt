@@ -51,13 +51,13 @@ fn rule(facts: &Facts, n: usize, tag: usize, a: usize, b: usize) -> usize {
         1
     } else if !holds(facts, n, TARGETED) {
         2
-    } else if plain && !holds(facts, n, DEFAULT) {
+    } else if plain & !holds(facts, n, DEFAULT) {
         3
-    } else if plain && !holds(facts, n, POLICY_NOT) {
+    } else if plain & !holds(facts, n, POLICY_NOT) {
         4
-    } else if tag == 0x24 && holds(facts, a, CERTIFIED) {
+    } else if (tag == 0x24) & holds(facts, a, CERTIFIED) {
         5
-    } else if tag == 0x25 && holds(facts, a, CERTIFIED) && holds(facts, b, CERTIFIED) {
+    } else if (tag == 0x25) & holds(facts, a, CERTIFIED) & holds(facts, b, CERTIFIED) {
         6
     } else {
         0

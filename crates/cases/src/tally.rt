@@ -7,7 +7,7 @@ use crate::compare::Case;
 // Counts, by the places below.
 pub type Tally = [usize; 64];
 
-// The cases of a group: how many were run, how many of them agreed, the first that did not, counted from 1, and its operation.
+// Two groups of cases, and of each how many were run, how many agreed, the first that did not, counted from 1, and its operation.
 pub const FIXED: usize = 0;
 
 pub const GENERATED: usize = 4;
@@ -79,7 +79,7 @@ pub fn first_to_disagree(tally: &mut Tally, case: Case) -> usize {
     for operation in 1..6 {
         let both = compare::run(operation, case);
         meet(tally, operation, both.model);
-        if !both.same && first == 0 {
+        if !both.agree && first == 0 {
             first = operation;
         }
     }

@@ -126,41 +126,51 @@ fn owe_parts(due: &mut Table, top: usize, node: usize, tag: usize, sort: usize) 
     }
 }
 
-// Reads the node that is due next.
-fn step(file: &[u8], nodes: &mut Table, due: &mut Table, s: Parser) -> Parser {
-    let at = s.at;
-    let count = s.count;
-    let waiting = s.waiting;
-    if s.number != 0 {
-        return s;
+// A node whose parts come later.
+fn add_node(nodes: &mut Table, n: usize, tag: usize, pair: usize) {
+    put(nodes, n, TAG, tag);
+    put(nodes, n, FIRST, NONE);
+    put(nodes, n, SECOND, NONE);
+    put(nodes, n, PAIR, pair);
+}
+
+fn stopped(s: Parser, number: usize) -> Parser {
+    let mut next = s;
+    next.number = number;
+    next
+}
+
+fn width(tag: usize) -> usize {
+    if tag == 0x10 { 5 } else { 1 }
+}
+
+// Reads the node that is due next, of which `top` is the place on the stack.
+fn read_node(file: &[u8], nodes: &mut Table, due: &mut Table, s: Parser, top: usize) -> Parser {
+    let sort = get(due, top, SORT);
+    let number = fault(file, s.at, sort, get(due, top, DEPTH), s.count);
+    if number != 0 {
+        return stopped(s, number);
     }
+    let tag = byte(file, s.at);
+    add_node(nodes, s.count, tag, big(file, plus(s.at, 1)));
+    put(nodes, get(due, top, PARENT), get(due, top, PART), s.count);
+    Parser {
+        at: plus(s.at, width(tag)),
+        count: plus(s.count, 1),
+        waiting: owe_parts(due, top, s.count, tag, sort),
+        number: 0,
+    }
+}
+
+fn step(file: &[u8], nodes: &mut Table, due: &mut Table, s: Parser) -> Parser {
+    let waiting = s.waiting;
     if waiting == 0 {
         return s;
     }
-    let top = waiting - 1;
-    let sort = get(due, top, SORT);
-    let number = fault(file, at, sort, get(due, top, DEPTH), count);
-    if number != 0 {
-        return Parser {
-            at,
-            count,
-            waiting,
-            number,
-        };
+    if s.number != 0 {
+        return s;
     }
-    let tag = byte(file, at);
-    put(nodes, count, TAG, tag);
-    put(nodes, count, FIRST, NONE);
-    put(nodes, count, SECOND, NONE);
-    put(nodes, count, PAIR, big(file, plus(at, 1)));
-    put(nodes, get(due, top, PARENT), get(due, top, PART), count);
-    let width = if tag == 0x10 { 5 } else { 1 };
-    Parser {
-        at: plus(at, width),
-        count: plus(count, 1),
-        waiting: owe_parts(due, top, count, tag, sort),
-        number: 0,
-    }
+    read_node(file, nodes, due, s, waiting - 1)
 }
 
 // Each turn reads a node or is refused, and the 256th node is refused.

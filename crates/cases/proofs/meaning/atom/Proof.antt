@@ -4,34 +4,16 @@ use borrow.Author.Needs.{needs}
 use Rattle.cases.proofs.meaning.atom.Statement.{statement}
 use Rattle.cases.proofs.meaning.atom.Tie as tie
 
-abbrev Inv-loop : tie.InvT-loop
-Inv-loop _ _ _ _ _ _ _ = Unit {0}
-
-abbrev μ-loop : tie.MeasureT-loop
-μ-loop _ count _ _ _ _ i = count - i
-
-loop-holds : tie.Need-loop-holds Inv-loop μ-loop
-loop-holds c = search needs
-
-at-requires : tie.Need-at-requires Inv-loop μ-loop
-at-requires c κs = search needs
-
-returns : tie.Need-returns Inv-loop μ-loop
-returns c = search needs
-
-add-i : tie.Need-add-i Inv-loop μ-loop
-add-i c = search needs
-
-loop-less : tie.Need-loop-less Inv-loop μ-loop
-loop-less c = search needs
-
-loop-again : tie.Need-loop-again Inv-loop μ-loop
-loop-again c = search needs
-
-returns-2 : tie.Need-returns-2 Inv-loop μ-loop
-returns-2 c = search needs
-
 pub atom-spec : {M : Type 1} → statement M
 atom-spec =
     tie.close
-    (tie.spec Inv-loop μ-loop loop-holds at-requires returns add-i loop-less loop-again returns-2)
+    (tie.spec
+    (λ _ _ _ _ _ _ _. Unit {0})
+    (λ _ count _ _ _ _ i. count - i)
+    (λ c. search needs)
+    (λ c κs. search needs)
+    (λ c. search needs)
+    (λ c. search needs)
+    (λ c. search needs)
+    (λ c. search needs)
+    (λ c. search needs))

@@ -4,43 +4,16 @@ use borrow.Author.Needs.{needs}
 use Rattle.cases.proofs.model.write_numbers.Statement.{statement}
 use Rattle.cases.proofs.model.write_numbers.Tie as tie
 
-abbrev Inv-loop : tie.InvT-loop
-Inv-loop _ _ _ _ _ _ = Unit {0}
-
-abbrev μ-loop : tie.MeasureT-loop
-μ-loop _ count _ _ _ i = count - i
-
-loop-holds : tie.Need-loop-holds Inv-loop μ-loop
-loop-holds c = search needs
-
-at-requires : tie.Need-at-requires Inv-loop μ-loop
-at-requires c κs = search needs
-
-set-number-requires : tie.Need-set-number-requires Inv-loop μ-loop
-set-number-requires c κs = search needs
-
-add-i : tie.Need-add-i Inv-loop μ-loop
-add-i c = search needs
-
-loop-less : tie.Need-loop-less Inv-loop μ-loop
-loop-less c = search needs
-
-loop-again : tie.Need-loop-again Inv-loop μ-loop
-loop-again c = search needs
-
-returns : tie.Need-returns Inv-loop μ-loop
-returns c = search needs
-
 pub write-numbers-spec : {M : Type 1} → statement M
 write-numbers-spec =
     tie.close
     (tie.spec
-    Inv-loop
-    μ-loop
-    loop-holds
-    at-requires
-    set-number-requires
-    add-i
-    loop-less
-    loop-again
-    returns)
+    (λ _ _ _ _ _ _. Unit {0})
+    (λ _ count _ _ _ i. count - i)
+    (λ c. search needs)
+    (λ c κs. search needs)
+    (λ c κs. search needs)
+    (λ c. search needs)
+    (λ c. search needs)
+    (λ c. search needs)
+    (λ c. search needs))

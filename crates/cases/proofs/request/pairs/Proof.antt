@@ -4,47 +4,17 @@ use borrow.Author.Needs.{needs}
 use Rattle.cases.proofs.request.pairs.Statement.{statement}
 use Rattle.cases.proofs.request.pairs.Tie as tie
 
-abbrev Inv-loop : tie.InvT-loop
-Inv-loop _ _ _ _ _ _ = Unit {0}
-
-abbrev μ-loop : tie.MeasureT-loop
-μ-loop _ count _ _ _ i = count - i
-
-loop-holds : tie.Need-loop-holds Inv-loop μ-loop
-loop-holds c = search needs
-
-plus-requires : tie.Need-plus-requires Inv-loop μ-loop
-plus-requires c κs = search needs
-
-big-requires : tie.Need-big-requires Inv-loop μ-loop
-big-requires c κs = search needs
-
-set-requires : tie.Need-set-requires Inv-loop μ-loop
-set-requires c κs = search needs
-
-add-i : tie.Need-add-i Inv-loop μ-loop
-add-i c = search needs
-
-loop-less : tie.Need-loop-less Inv-loop μ-loop
-loop-less c = search needs
-
-loop-again : tie.Need-loop-again Inv-loop μ-loop
-loop-again c = search needs
-
-returns : tie.Need-returns Inv-loop μ-loop
-returns c = search needs
-
 pub pairs-spec : {M : Type 1} → statement M
 pairs-spec =
     tie.close
     (tie.spec
-    Inv-loop
-    μ-loop
-    loop-holds
-    plus-requires
-    big-requires
-    set-requires
-    add-i
-    loop-less
-    loop-again
-    returns)
+    (λ _ _ _ _ _ _. Unit {0})
+    (λ _ count _ _ _ i. count - i)
+    (λ c. search needs)
+    (λ c κs. search needs)
+    (λ c κs. search needs)
+    (λ c κs. search needs)
+    (λ c. search needs)
+    (λ c. search needs)
+    (λ c. search needs)
+    (λ c. search needs))
