@@ -17,3 +17,5 @@ pub mod PolicyExact
 pub mod View
 pub mod WorkedPolicy
 pub mod Walk
+pub mod Limits
+pub mod Refused

@@ -5,3 +5,4 @@ pub mod ReadRequest
 pub mod Places
 pub mod Memory
 pub mod Cases
+pub mod Bounded

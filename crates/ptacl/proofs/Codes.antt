@@ -5,7 +5,8 @@ use mathlib.Core.Bool.{Bool, true}
 use native.Mathlib.Omega.{arith}
 use lib.Dec.{eqb}
 use borrow.Author.Tests.{eqb-true}
-use Rattle.ptacl.specs.Values.{Values, code, setOf}
+use Rattle.ptacl.specs.Value.{v1}
+use Rattle.ptacl.specs.Values.{Values, isEmpty, only, code, setOf}
 use Rattle.ptacl.specs.Pairs.{allBelow}
 use Rattle.ptacl.proofs.Bools.{below-at}
 use Rattle.ptacl.proofs.Finite.{sets, by}
@@ -16,6 +17,15 @@ code-set s = λ i. record {
   has0 = by sets (λ s. setOf (code s) .has0) (λ s. s .has0) refl s i;
   hasU = by sets (λ s. setOf (code s) .hasU) (λ s. s .hasU) refl s i;
 }
+
+-- empty is code 0, {1} is code 1
+pub empty-code : (s : Values) → isEmpty s ≡ eqb (code s) 0
+unfolding isEmpty
+empty-code = by sets _ _ refl
+
+pub allow-code : (s : Values) → only v1 s ≡ eqb (code s) 1
+unfolding only
+allow-code = by sets _ _ refl
 
 -- only the last three bits say what set it is
 low-bits : (c : ℕ) → setOf (c % 8) ≡ setOf c

@@ -1,4 +1,4 @@
--- A policy has an exposure on its pairs exactly if it is not resistant, for every reading.
+-- A policy has an exposure on its pairs exactly if it is not resistant, for every reading and every lawful comparison.
 use Prim.Native.Nat.{ℕ, suc, _<_, _-_, _^_}
 use mathlib.Core.Path.{_≡_, refl, sym, ap, subst, _∙_}
 use mathlib.Core.Logic.{_↔_}
@@ -10,7 +10,7 @@ use Rattle.ptacl.specs.Request.{Pair, Request, Within}
 use Rattle.ptacl.specs.Term.{Policy, atoms}
 use Rattle.ptacl.specs.Meaning.{eval}
 use Rattle.ptacl.specs.Pairs.{normal, IsPairs}
-use Rattle.ptacl.specs.Exposure.{Reading, ResistantBy, bit, subset, onePair, ExposureBy}
+use Rattle.ptacl.specs.Exposure.{Reading, Comparison, ResistantBy, bit, subset, Removal, onePair, ExposureBy}
 use Rattle.ptacl.proofs.Bools.{either, clash}
 use Rattle.ptacl.proofs.Normal.{eval-normal, normal-up}
 use Rattle.ptacl.proofs.Bits.{bit-zero, bit-below, put, put-odd, put-small, put-bit, put-less}
@@ -65,15 +65,35 @@ exposed {g} {p} {ps} {q'} {q} h w t f =
     (ap g (eval-normal p (normal-subset h q')) ∙ t) (ap g (eval-normal p (normal-subset h q)) ∙ f) in
     (l .m, l .i, record { numbered = l .numbered; larger = l .larger; taken = l .taken; smaller = l .smaller })
 
-pub unexposed : {g : Reading} {p : Policy} {ps : List Pair} {m i : ℕ} → ResistantBy g p → ExposureBy g onePair p ps m i → ⊥
-unexposed {ps} {m} {i} r e = clash (r .stays (less-within ps m i (e .taken)) (e .smaller)) (e .larger)
+-- a policy is resistant by every comparison of fewer requests
+pub resistant-fewer : {R S : Comparison} {g : Reading} {p : Policy} → ((q' q : Request) → R q' q → S q' q) → ResistantBy S g p → ResistantBy R g p
+resistant-fewer f r = record { stays = λ {q'} {q} w. r .stays (f q' q w) }
+
+-- what is compared has no exposure
+pub unexposed-by : {R : Comparison} {g : Reading} {o : Removal} {p : Policy} {ps : List Pair} {m i : ℕ}
+    → R (subset ps (o .less m i)) (subset ps m) → ResistantBy R g p → ExposureBy g o p ps m i → ⊥
+unexposed-by w r e = clash (r .stays w (e .smaller)) (e .larger)
+
+pub unexposed : {g : Reading} {p : Policy} {ps : List Pair} {m i : ℕ} → ResistantBy Within g p → ExposureBy g onePair p ps m i → ⊥
+unexposed {ps} {m} {i} r e = unexposed-by (less-within ps m i (e .taken)) r e
+
+-- a comparison of requests within each other that has every subset of the pairs beside that with one pair less
+pub record Lawful (R : Comparison) (ps : List Pair) : Type 0 where
+  pub within : (q' q : Request) → R q' q → Within q' q
+  pub one-less : (m i : ℕ) → bit m i ≡ true → R (subset ps (m - 2 ^ i)) (subset ps m)
+
+pub resistant-by-iff : {R : Comparison} {g : Reading} {p : Policy} {ps : List Pair} → Lawful R ps → IsPairs (atoms p) ps
+    → ((m i : ℕ) → ExposureBy g onePair p ps m i → ⊥) ↔ ResistantBy R g p
+resistant-by-iff {g = g} {p = p} l h = (
+  λ n. record {
+    stays = λ {q'} {q} w t. either (g (eval p q)) (λ k. k) (λ k. let x = exposed h (l .within q' q w) t k in absurd (n (x .0) (x .1) (x .2)));
+  },
+  λ r m i e. unexposed-by (l .one-less m i (e .taken)) r e,
+)
 
 pub resistant-iff : {g : Reading} {p : Policy} {ps : List Pair} → IsPairs (atoms p) ps
-    → ((m i : ℕ) → ExposureBy g onePair p ps m i → ⊥) ↔ ResistantBy g p
-resistant-iff {g} {p} h = (
-  λ n. record { stays = λ {q'} {q} w t. either (g (eval p q)) (λ k. k) (λ k. let x = exposed h w t k in absurd (n (x .0) (x .1) (x .2))) },
-  λ r m i e. unexposed r e,
-)
+    → ((m i : ℕ) → ExposureBy g onePair p ps m i → ⊥) ↔ ResistantBy Within g p
+resistant-iff {ps = ps} = resistant-by-iff (record { within = λ q' q w. w; one-less = less-within ps })
 
 pub exposure-index : {g : Reading} {p : Policy} {ps : List Pair} {m i : ℕ} → ExposureBy g onePair p ps m i → i < length ps
 exposure-index {ps} {m} {i} e = bit-below m (length ps) i (e .numbered) (e .taken)

@@ -23,7 +23,7 @@ holds-if : (b : Bool) (y : Pair) (q : Request) (x : Pair) → holds (cond b (y �
 holds-if true y q x = refl
 holds-if false y q x = refl
 
-subset-within : (ps : List Pair) (m : ℕ) → Within (subset ps m) ps
+pub subset-within : (ps : List Pair) (m : ℕ) → Within (subset ps m) ps
 subset-within [] m = record { up = λ x h. h }
 subset-within (y ∷ ps) m = record {
   up = λ x. via (holds-if (odd m) y (subset ps (m / 2)) x) refl

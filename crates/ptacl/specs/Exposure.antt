@@ -1,4 +1,5 @@
--- Document 01, "Exposure and search", up to the first exposure. Where a set counts as allowed is a reading; this page's is strict.
+-- Document 01, "Exposure and search", up to the first exposure. Where a set counts as allowed is a reading, and which requests are
+-- compared is a relation; this page's are strict, and one request within another.
 use Prim.Native.Nat.{ℕ, _-_, _/_, _%_, _^_, _<_}
 use mathlib.Core.Path.{_≡_}
 use mathlib.Core.Bool.{Bool, true, false, cond}
@@ -18,12 +19,16 @@ Reading = Values → Bool
 abbrev pub strict : Reading
 strict = only v1
 
--- no requests q' within q exist with q' allowed and q not
-pub record ResistantBy (g : Reading) (p : Policy) : Type 0 where
-  pub stays : {q' q : Request} → Within q' q → g (eval p q') ≡ true → g (eval p q) ≡ true
+abbrev pub Comparison : Type 1
+Comparison = Request → Request → Type 0
 
+-- no requests q' and q that are compared exist with q' allowed and q not
+pub record ResistantBy (compared : Comparison) (g : Reading) (p : Policy) : Type 0 where
+  pub stays : {q' q : Request} → compared q' q → g (eval p q') ≡ true → g (eval p q) ≡ true
+
+-- no requests q' within q exist with q' at {1} and q not at {1}
 abbrev pub Resistant : Policy → Type 0
-Resistant p = ResistantBy strict p
+Resistant p = ResistantBy Within strict p
 
 abbrev pub bit : ℕ → ℕ → Bool
 bit m i = eqb (m / 2 ^ i % 2) 1
