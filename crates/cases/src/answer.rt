@@ -1,6 +1,8 @@
-// An answer in document 01's numbers, whoever gives it. What an operation does not answer is 0.
+// An answer in document 01's numbers, whoever gives it. What an operation does not answer is 0. Whether it is a refusal is kept
+// beside the number, so that a refusal with number 0 is no answer.
 
 pub struct Answer {
+    pub refusal: bool,
     pub number: usize,
     pub place: usize,
     pub set: usize,
@@ -13,6 +15,7 @@ pub struct Answer {
 }
 
 const BLANK: Answer = Answer {
+    refusal: false,
     number: 0,
     place: 0,
     set: 0,
@@ -26,6 +29,7 @@ const BLANK: Answer = Answer {
 
 pub fn refused(number: usize, place: usize) -> Answer {
     let mut a = BLANK;
+    a.refusal = true;
     a.number = number;
     a.place = place;
     a
@@ -66,7 +70,7 @@ pub fn exposed(pairs: usize, m: usize, i: usize, bytes: usize) -> Answer {
 }
 
 pub fn same(a: Answer, b: Answer) -> bool {
-    let refusals = a.number == b.number && a.place == b.place;
+    let refusals = a.refusal == b.refusal && a.number == b.number && a.place == b.place;
     let numbers = a.set == b.set && a.pairs == b.pairs && a.rule == b.rule;
     let exposures = a.verdict == b.verdict && a.m == b.m && a.i == b.i && a.bytes == b.bytes;
     refusals && numbers && exposures

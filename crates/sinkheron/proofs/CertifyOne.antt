@@ -1,29 +1,29 @@
--- Any two outcomes that certify's promise permits are equal; and a number other than 0 means resistant.
-use mathlib.Core.Path.{_≡_, refl, sym, _∙_}
+-- certify's promise leaves one outcome; and a number other than 0 means resistant.
+use mathlib.Core.Path.{_≡_, refl}
 use mathlib.Core.List.{List}
 use Prim.Native.Nat.{ℕ}
 use Rattle.ptacl.specs.Term.{Policy}
 use Rattle.ptacl.specs.Exposure.{Resistant}
-use Rattle.ptacl.specs.Rules.{certificate}
-use Rattle.ptacl.proofs.Cert.{certificate-is, certificate-unique, certificate-resistant}
-use Rattle.files.specs.Encoding.{IsPolicy}
-use Rattle.files.specs.Refusal.{Read, accepted, refused}
-use Rattle.files.specs.ReadPolicy.{readPolicy}
+use Rattle.ptacl.proofs.Cert.{certificate-unique, certificate-resistant}
+use Rattle.files.specs.Encoding.{Bytes, IsPolicy}
 use Rattle.files.proofs.PolicyComplete.{policy-read-one}
-use Rattle.files.proofs.PolicyExact.{policy-reads}
-use Rattle.sinkheron.specs.Certify.{Paper, paper, Certifies, policy-refused, certified}
+use Rattle.sinkheron.specs.declared.Certified.{Certified}
+use Rattle.sinkheron.specs.Answer.{Answer, refusal, success, OneOutcome}
+use Rattle.sinkheron.specs.Ways.{holding, the, gives}
+use Rattle.sinkheron.specs.Certify.{answerOf, Certifies}
+use Rattle.sinkheron.proofs.Ranges.{certify-ranged}
+use Rattle.sinkheron.proofs.OneOutcome.{one-outcome, policy-one, the-one, gives-one}
 
-abbrev outcome : Read Policy → Paper
-outcome (refused n at) = paper n at 0
-outcome (accepted p) = paper 0 0 (certificate p)
+abbrev back : Answer ℕ → Certified
+back (refusal n at) = Certified.Refused n at
+back (success k) = Certified.By k
 
-is-outcome : {policy : List ℕ} {x : Paper} → Certifies policy x → outcome (readPolicy policy) ≡ x
-is-outcome (policy-refused e) = rw e
-is-outcome (certified {p} f c) = rw (policy-reads f, certificate-unique (certificate-is p) c)
+its : (r : Certified) → back (answerOf r) ≡ r
+its (Certified.Refused n at) = refl
+its (Certified.By k) = refl
 
-pub certifies-one : {policy : List ℕ} {x y : Paper} → Certifies policy x → Certifies policy y → x ≡ y
-certifies-one d e = sym (is-outcome d) ∙ is-outcome e
+pub certify-one : {policy : List ℕ} → Bytes policy → OneOutcome answerOf (Certifies policy)
+certify-one b = one-outcome back its (policy-one (λ p. the-one (λ j k c d. certificate-unique c d) (λ k. gives-one))) (certify-ranged b)
 
-pub certified-resistant : {policy : List ℕ} {p : Policy} {k : ℕ} → IsPolicy policy p → Certifies policy (paper 0 0 k) → (k ≡ 0 → ⊥) → Resistant p
-certified-resistant f (policy-refused e) z = absurd (z refl)
-certified-resistant {k = k} f (certified {p} g c) z = rw (policy-read-one f g) (certificate-resistant c z)
+pub certified-resistant : {policy : List ℕ} {p : Policy} {k : ℕ} → IsPolicy policy p → Certifies policy (success k) tt → (k ≡ 0 → ⊥) → Resistant p
+certified-resistant f (holding g (the c gives)) z = rw (policy-read-one f g) (certificate-resistant c z)

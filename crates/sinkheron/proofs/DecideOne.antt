@@ -1,30 +1,25 @@
--- Any two outcomes that decide's promise permits are equal.
+-- decide's promise leaves one outcome.
 use Prim.Native.Nat.{ℕ}
-use mathlib.Core.Path.{_≡_, sym, _∙_}
-use mathlib.Core.Bool.{cond}
+use mathlib.Core.Path.{_≡_, refl}
 use mathlib.Core.List.{List}
-use Rattle.ptacl.specs.Values.{isEmpty, code}
-use Rattle.ptacl.specs.Request.{Request}
-use Rattle.ptacl.specs.Term.{Policy}
-use Rattle.ptacl.specs.Meaning.{eval}
-use Rattle.files.specs.Refusal.{Read, accepted, refused}
-use Rattle.files.specs.ReadPolicy.{readPolicy}
-use Rattle.files.specs.ReadRequest.{readRequest}
-use Rattle.files.proofs.PolicyExact.{policy-reads}
-use Rattle.files.proofs.RequestExact.{request-reads}
-use Rattle.sinkheron.specs.Decide.{Paper, paper, Decides, policy-refused, request-refused, empty, decided}
+use Rattle.files.specs.Encoding.{Bytes}
+use Rattle.sinkheron.specs.declared.Decision.{Decision}
+use Rattle.sinkheron.specs.Answer.{Answer, refusal, success, OneOutcome}
+use Rattle.sinkheron.specs.Decide.{answerOf, Decides}
+use Rattle.sinkheron.proofs.Ranges.{decide-ranged}
+use Rattle.sinkheron.proofs.OneOutcome.{One, one-outcome, policy-one, request-one, refused-if-one, gives-one}
 
--- the outcome, by what the files hold
-abbrev outcome : Read Policy → Read Request → Paper
-outcome (refused n at) r = paper n at 0
-outcome (accepted p) (refused n at) = paper n at 0
-outcome (accepted p) (accepted q) = cond (isEmpty (eval p q)) (paper 14 0 0) (paper 0 0 (code (eval p q)))
+abbrev back : Answer ℕ → Decision
+back (refusal n at) = Decision.Refused n at
+back (success s) = Decision.Decided (record { code = s })
 
-is-outcome : {policy request : List ℕ} {x : Paper} → Decides policy request x → outcome (readPolicy policy) (readRequest request) ≡ x
-is-outcome (policy-refused e) = rw e
-is-outcome (request-refused f e) = rw (policy-reads f, e)
-is-outcome (empty f g e) = rw (policy-reads f, request-reads g, e)
-is-outcome (decided f g e) = rw (policy-reads f, request-reads g, e)
+its : (r : Decision) → back (answerOf r) ≡ r
+its (Decision.Refused n at) = refl
+its (Decision.Decided s) = refl
 
-pub decides-one : {policy request : List ℕ} {x y : Paper} → Decides policy request x → Decides policy request y → x ≡ y
-decides-one d e = sym (is-outcome d) ∙ is-outcome e
+-- whatever the bytes
+pub decide-same : {policy request : List ℕ} → One (Decides policy request)
+decide-same = policy-one (λ p. request-one (λ q. refused-if-one gives-one))
+
+pub decide-one : {policy request : List ℕ} → Bytes policy → OneOutcome answerOf (Decides policy request)
+decide-one b = one-outcome back its decide-same (decide-ranged b)

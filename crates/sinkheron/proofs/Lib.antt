@@ -7,4 +7,6 @@ pub mod CertifyOne
 pub mod SearchOne
 pub mod Worked
 pub mod Ranges
+pub mod OneOutcome
 pub mod WordOne
+pub mod Handed

@@ -1,36 +1,30 @@
--- Any two outcomes that list_pairs' promise permits are equal, the lent slice included.
-use mathlib.Core.Path.{_≡_, refl, sym, _∙_}
-use mathlib.Core.Bool.{cond}
+-- list_pairs' promise leaves one outcome; and the list is no longer than the slice.
+use mathlib.Core.Path.{_≡_, refl}
 use mathlib.Core.List.{List, map}
-use Prim.Native.Nat.{ℕ}
-use lib.Dec.{ltb}
+use Prim.Native.Nat.{ℕ, _≤_}
 use lib.ListN.{length}
-use borrow.Author.Tests.{lt-ltb, le-ltb}
-use Rattle.ptacl.specs.Request.{Pair}
-use Rattle.ptacl.specs.Term.{Policy, atoms}
+use borrow.Author.Tests.{ltb-false}
 use Rattle.ptacl.specs.Pairs.{packed}
-use Rattle.ptacl.proofs.Pairs.{pairsOf, pairs-exist, pairs-unique}
-use Rattle.files.specs.Refusal.{Read, accepted, refused}
-use Rattle.files.specs.ReadPolicy.{readPolicy}
-use Rattle.files.specs.Memory.{over}
-use Rattle.files.proofs.PolicyExact.{policy-reads}
-use Rattle.sinkheron.specs.ListPairs.{Paper, paper, Lists, policy-refused, too-small, listed}
+use Rattle.ptacl.proofs.Pairs.{pairs-unique}
+use Rattle.files.specs.Encoding.{Bytes}
+use Rattle.sinkheron.specs.declared.Listing.{Listing}
+use Rattle.sinkheron.specs.Answer.{Answer, refusal, success, OneOutcome}
+use Rattle.sinkheron.specs.Ways.{holding, the, passes, gives}
+use Rattle.sinkheron.specs.ListPairs.{answerOf, Lists}
+use Rattle.sinkheron.proofs.Ranges.{list-pairs-ranged}
+use Rattle.sinkheron.proofs.OneOutcome.{one-outcome, policy-one, the-one, refused-if-one, gives-one}
 
--- the outcome for a list of pairs, and by what the file holds
-abbrev listing : List Pair → List ℕ → Paper × List ℕ
-listing ps before = cond (ltb (length before) (length ps)) (paper 13 0 0, before) (paper 0 0 (length ps), over (map packed ps) before)
+abbrev back : Answer ℕ → Listing
+back (refusal n at) = Listing.Refused n at
+back (success k) = Listing.Listed k
 
-abbrev outcome : Read Policy → List ℕ → Paper × List ℕ
-outcome (refused n at) before = (paper n at 0, before)
-outcome (accepted p) before = listing (pairsOf (atoms p)) before
+its : (r : Listing) → back (answerOf r) ≡ r
+its (Listing.Refused n at) = refl
+its (Listing.Listed k) = refl
 
-is-outcome : {policy before after : List ℕ} {x : Paper} → Lists policy before x after → outcome (readPolicy policy) before ≡ (x, after)
-is-outcome (policy-refused e) = rw e
-is-outcome {before = before} (too-small {p} f h l) =
-    rw (policy-reads f, pairs-unique (pairs-exist (atoms p)) h, lt-ltb _ _ l)
-is-outcome {before = before} (listed {p} f h l) =
-    rw (policy-reads f, pairs-unique (pairs-exist (atoms p)) h, le-ltb _ _ l)
+pub list-pairs-one : {policy before : List ℕ} → Bytes policy → OneOutcome answerOf (Lists policy before)
+list-pairs-one b = one-outcome back its (policy-one (λ p. the-one (λ t u h k. pairs-unique h k) (λ ps. refused-if-one gives-one))) (list-pairs-ranged b)
 
-pub lists-one : {policy before after after' : List ℕ} {x y : Paper} → Lists policy before x after → Lists policy before y after'
-    → _≡_ {A = Paper × List ℕ} (x, after) (y, after')
-lists-one d e = sym (is-outcome d) ∙ is-outcome e
+-- the list has no more pairs than the slice that was lent for it
+pub listed-fits : {policy before after : List ℕ} {k : ℕ} → Lists policy before (success k) after → k ≤ length before
+listed-fits {before = before} (holding p (the {t = ps} h (passes l gives))) = ltb-false (length before) (length (map packed ps)) l

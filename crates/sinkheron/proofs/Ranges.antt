@@ -1,68 +1,95 @@
--- How large the values of a permitted answer are, so that each stands in its own bits of the word.
+-- How large the parts of a permitted answer are, way by way: each stands in its own bits of the word, and a refusal's number is above 0.
 use Prim.Native.Nat.{ℕ, _+_, _*_, _^_, _%_, _-_, _≤_, _<_}
 use mathlib.Core.Path.{_≡_, refl, ap, _∙_}
+use mathlib.Core.Bool.{Bool, true, false, _&&_}
 use mathlib.Core.List.{List}
 use native.Mathlib.Decide.{decLt}
 use native.Mathlib.Omega.{arith}
+use lib.Dec.{ltb}
 use lib.Pow.{pow-lt}
-use lib.ListN.{length, length-append}
+use lib.ListN.{length, length-append, length-map}
 use Rattle.ptacl.specs.Values.{Values, code}
 use Rattle.ptacl.specs.Request.{Pair, Request}
 use Rattle.ptacl.specs.Term.{Policy, nodes, atoms}
 use Rattle.ptacl.specs.Meaning.{eval}
-use Rattle.ptacl.specs.Pairs.{normal, IsNormal}
+use Rattle.ptacl.specs.Pairs.{normal, IsNormal, packed}
 use Rattle.ptacl.specs.Exposure.{subset, Exposure, First}
-use Rattle.ptacl.specs.Rules.{Certified, cert1, cert2, cert3, cert4, cert5, cert6, none, least}
+use Rattle.ptacl.specs.Rules.{Certified, Certificate, cert1, cert2, cert3, cert4, cert5, cert6, none, least}
+use Rattle.ptacl.proofs.Bools.{and-left, and-right}
 use Rattle.ptacl.proofs.Codes.{code-set, of-code}
 use Rattle.ptacl.proofs.Pairs.{pairsOf, pairs-exist, pairs-254}
 use Rattle.ptacl.proofs.Normal.{normal-unique}
 use Rattle.ptacl.proofs.Subset.{mask, normal-subset}
 use Rattle.ptacl.proofs.Exposed.{exposure-index}
-use Rattle.files.specs.Encoding.{Bytes, requestFile}
+use borrow.Author.Tests.{ltb-true, ltb-false}
+use Rattle.files.specs.Encoding.{Bytes, requestFile, IsPolicy, IsRequest}
+use Rattle.files.specs.Refusal.{Read, refused}
 use Rattle.files.proofs.Memory.{request-length}
 use Rattle.files.proofs.PolicyExact.{refused-place}
 use Rattle.files.proofs.RequestExact.{request-refused-range}
 use Rattle.search.specs.Found.{twoFiles, exposureFiles}
 use Rattle.search.proofs.Chosen.{subset-most, subset-less}
+use Rattle.sinkheron.specs.Answer.{Answer, refusal, success, Promise}
+use Rattle.sinkheron.specs.Ways.{OfPolicy, OfRequest, Reads, unread, holding, The, the, RefusedIf, stops, passes, Gives, gives}
 use Rattle.sinkheron.specs.Decide as D
 use Rattle.sinkheron.specs.ListPairs as L
 use Rattle.sinkheron.specs.NormalForm as N
 use Rattle.sinkheron.specs.Certify as C
 use Rattle.sinkheron.specs.Search as S
 
--- a number and a place as an answer can have them, and values that only a success has
-pub record Fair (number place values most : ℕ) : Type 0 where
-  pub small : number < 256
-  pub near : place ≤ 65538
-  pub success : number ≡ 0 → place ≡ 0
-  pub refusal : (number ≡ 0 → ⊥) → values ≡ 0
-  pub within : values ≤ most
+-- a refusal's number and place; else values as they can be
+abbrev pub Refused : ℕ → ℕ → Type 0
+Refused n at = (0 < n) × (n < 256) × (at ≤ 65538)
 
-fair-refusal : {n at most : ℕ} → 1 ≤ n → n < 256 → at ≤ 65538 → Fair n at 0 most
-fair-refusal l s a = record { small = s; near = a; success = λ z. absurd (omega arith); refusal = λ z. refl; within = omega arith }
+abbrev pub Range : {A : Type 0} → (A → Type 0) → Answer A → Type 0
+Range can (refusal n at) = Refused n at
+Range can (success v) = can v
 
-fair-success : {v most : ℕ} → v ≤ most → Fair 0 0 v most
-fair-success h = record { small = omega arith; near = omega arith; success = λ z. refl; refusal = λ z. absurd (z refl); within = h }
+abbrev pub Ranged : {A M : Type 0} → (A → Type 0) → Promise A M → Type 0
+Ranged {A} {M} can permits = (x : Answer A) (m : M) → permits x m → Range can x
 
-policy-fair : {n at most : ℕ} → (1 ≤ n) × (n ≤ 8) × (at ≤ 65538) → Fair n at 0 most
-policy-fair r = fair-refusal (r .0) (omega (arith, r .1)) (r .2)
+abbrev fair : ℕ → ℕ → Bool
+fair n at = ltb 0 n && (ltb n 256 && ltb at 65539)
 
-request-fair : {n at most : ℕ} → (21 ≤ n) × (n ≤ 26) × (at ≤ 1027) → Fair n at 0 most
-request-fair r = fair-refusal (omega (arith, r .0)) (omega (arith, r .1)) (omega (arith, r .2))
+fair-refused : (n at : ℕ) → fair n at ≡ true → Refused n at
+fair-refused n at h =
+    let k = and-right (ltb 0 n) h in
+    (ltb-true 0 n (and-left _ h), ltb-true n 256 (and-left _ k), omega (arith, ltb-true at 65539 (and-right (ltb n 256) k)))
+
+module _ {A M : Type 0} {can : A → Type 0} where
+  reads-ranged : {F : Type 0} {read : Read F} {IsFile : F → Type 0} {before : M} {follows : F → Promise A M}
+      → ((n at : ℕ) → read ≡ refused n at → Refused n at) → ((f : F) → IsFile f → Ranged can (follows f)) → Ranged can (Reads read IsFile before follows)
+  reads-ranged r o _ _ (unread {n} {at} e) = r n at e
+  reads-ranged r o x m (holding {f} h d) = o f h x m d
+
+  policy-ranged : {policy : List ℕ} {before : M} {follows : Policy → Promise A M}
+      → Bytes policy → ((p : Policy) → IsPolicy policy p → Ranged can (follows p)) → Ranged can (OfPolicy policy before follows)
+  policy-ranged b o = reads-ranged (λ n at e. let r = refused-place e b in (omega (arith, r .0), omega (arith, r .1), r .2)) o
+
+  request-ranged : {request : List ℕ} {before : M} {follows : Request → Promise A M}
+      → ((q : Request) → IsRequest request q → Ranged can (follows q)) → Ranged can (OfRequest request before follows)
+  request-ranged {request} o =
+      reads-ranged (λ n at e. let r = request-refused-range request e in (omega (arith, r .0), omega (arith, r .1), omega (arith, r .2))) o
+
+  the-ranged : {T : Type 0} {Is : T → Type 0} {follows : T → Promise A M} → ((t : T) → Is t → Ranged can (follows t)) → Ranged can (The Is follows)
+  the-ranged o x m (the {t} h d) = o t h x m d
+
+  refused-if-ranged : {test : Bool} {n at : ℕ} {before : M} {follows : Promise A M}
+      → fair n at ≡ true → (test ≡ false → Ranged can follows) → Ranged can (RefusedIf test n at before follows)
+  refused-if-ranged {n = n} {at = at} h o _ _ (stops e) = fair-refused n at h
+  refused-if-ranged h o x m (passes e d) = o e x m d
+
+gives-ranged : {A M : Type 0} {v : A} {after : M} (can : A → Type 0) → can v → Ranged can (Gives v after)
+gives-ranged can h _ _ gives = h
 
 code-most : (s : Values) → code s ≤ 7
 code-most s = let e : code s % 8 ≡ code s = of-code (λ k. k) (λ s. s) refl (code s) ∙ ap code (code-set s) in omega arith
 
-pub decide-fair : {s q : List ℕ} {x : D.Paper} → Bytes s → D.Decides s q x → Fair (x .number) (x .place) (x .set) 7
-decide-fair b (D.policy-refused e) = policy-fair (refused-place e b)
-decide-fair {q = q} b (D.request-refused f e) = request-fair (request-refused-range q e)
-decide-fair b (D.empty f g e) = fair-refusal (omega arith) (omega arith) (omega arith)
-decide-fair b (D.decided {p = p} {q = r} f g e) = fair-success (code-most (eval p r))
+pub decide-ranged : {s q : List ℕ} → Bytes s → Ranged (λ k. k ≤ 7) (D.Decides s q)
+decide-ranged b = policy-ranged b (λ p f. request-ranged (λ q g. refused-if-ranged refl (λ e. gives-ranged (λ k. k ≤ 7) (code-most (eval p q)))))
 
-pub list-pairs-fair : {s before after : List ℕ} {x : L.Paper} → Bytes s → L.Lists s before x after → Fair (x .number) (x .place) (x .pairs) 254
-list-pairs-fair b (L.policy-refused e) = policy-fair (refused-place e b)
-list-pairs-fair b (L.too-small f h l) = fair-refusal (omega arith) (omega arith) (omega arith)
-list-pairs-fair b (L.listed {p} f h l) = fair-success (pairs-254 p (f .fits .few) h)
+pub list-pairs-ranged : {s before : List ℕ} → Bytes s → Ranged (λ k. k ≤ 254) (L.Lists s before)
+list-pairs-ranged b = policy-ranged b (λ p f. the-ranged (λ ps h. refused-if-ranged refl (λ e. gives-ranged (λ k. k ≤ 254) (omega (arith, length-map ps packed, pairs-254 p (f .fits .few) h)))))
 
 rule-most : {k : ℕ} {p : Policy} → Certified k p → k ≤ 6
 rule-most (cert1 h) = omega arith
@@ -72,10 +99,12 @@ rule-most (cert4 h) = omega arith
 rule-most (cert5 h) = omega arith
 rule-most (cert6 h k) = omega arith
 
-pub certify-fair : {s : List ℕ} {x : C.Paper} → Bytes s → C.Certifies s x → Fair (x .number) (x .place) (x .rule) 6
-certify-fair b (C.policy-refused e) = policy-fair (refused-place e b)
-certify-fair b (C.certified f (none n)) = fair-success (omega arith)
-certify-fair b (C.certified f (least c l)) = fair-success (rule-most c)
+number-most : {k : ℕ} {p : Policy} → Certificate p k → k ≤ 6
+number-most (none n) = omega arith
+number-most (least c l) = rule-most c
+
+pub certify-ranged : {s : List ℕ} → Bytes s → Ranged (λ k. k ≤ 6) (C.Certifies s)
+certify-ranged b = policy-ranged b (λ p f. the-ranged (λ k c. gives-ranged (λ k. k ≤ 6) (number-most c)))
 
 -- a normal form is within the policy's pairs
 normal-254 : (p : Policy) → nodes p ≤ 255 → {q r : Request} → IsNormal (atoms p) q r → length r ≤ 254
@@ -84,12 +113,10 @@ normal-254 p few {q} h =
     let e = ap length (normal-unique h n) in
     omega (arith, e, subset-most (pairsOf (atoms p)) (mask (normal (atoms p) q) (pairsOf (atoms p))), pairs-254 p few (pairs-exist (atoms p)))
 
-pub normal-form-fair : {s q before after : List ℕ} {x : N.Paper} → Bytes s → N.Normalises s q before x after
-    → Fair (x .number) (x .place) (x .bytes) 1019
-normal-form-fair b (N.policy-refused e) = policy-fair (refused-place e b)
-normal-form-fair {q = q} b (N.request-refused f e) = request-fair (request-refused-range q e)
-normal-form-fair b (N.too-small f g h l) = fair-refusal (omega arith) (omega arith) (omega arith)
-normal-form-fair b (N.written {p} {q} {r} f g h l) = fair-success (omega (arith, request-length r, normal-254 p (f .fits .few) h))
+pub normal-form-ranged : {s q before : List ℕ} → Bytes s → Ranged (λ k. k ≤ 1019) (N.Normalises s q before)
+normal-form-ranged b =
+    policy-ranged b (λ p f. request-ranged (λ q g. the-ranged (λ r h. refused-if-ranged refl (λ e.
+    gives-ranged (λ k. k ≤ 1019) (omega (arith, request-length r, normal-254 p (f .fits .few) h))))))
 
 numbers-most : {m : ℕ} (k : ℕ) → m < 2 ^ k → k ≤ 16 → m < 65536
 numbers-most k l h = elim (decLt k 16) [
@@ -107,27 +134,20 @@ files-most {ps = ps} {m} {i} few e =
     let k = subset-most ps m in
     omega (arith, length-append (requestFile r) (requestFile s), request-length r, request-length s)
 
-pub record SearchFair (x : S.Paper) : Type 0 where
-  pub fair : Fair (x .number) (x .place) (x .verdict + x .pairs + x .bytes + x .subset + x .hides) 70000
-  pub verdict : x .verdict < 2
-  pub pairs : x .pairs ≤ 16
-  pub bytes : x .bytes ≤ 130
-  pub subset : x .subset < 65536
-  pub hides : x .hides < 16
+pub record Can (v : S.Values) : Type 0 where
+  pub verdict : v .verdict < 2
+  pub pairs : v .pairs ≤ 16
+  pub bytes : v .bytes ≤ 130
+  pub subset : v .subset < 65536
+  pub hides : v .hides < 16
 
-refused-search : {n at : ℕ} → Fair n at 0 70000 → SearchFair (S.refusal n at)
-refused-search f = record { fair = f; verdict = omega arith; pairs = omega arith; bytes = omega arith; subset = omega arith; hides = omega arith }
-
-pub search-fair : {s before after : List ℕ} {x : S.Paper} → Bytes s → S.Searches s before x after → SearchFair x
-search-fair b (S.policy-refused e) = refused-search (policy-fair (refused-place e b))
-search-fair b (S.too-many f h l) = refused-search (fair-refusal (omega arith) (omega arith) (omega arith))
-search-fair b (S.too-small f h l k) = refused-search (fair-refusal (omega arith) (omega arith) (omega arith))
-search-fair b (S.is-resistant {ps = ps} a r) =
-    let l = a .few in
-    record { fair = fair-success (omega arith); verdict = omega arith; pairs = l; bytes = omega arith; subset = omega arith; hides = omega arith }
-search-fair b (S.is-exposed {ps = ps} {m} {i} a h) =
-    let l = a .few in
-    let f = files-most l (h .hit) in
+judges-ranged : {p : Policy} {ps : List Pair} {before : List ℕ} → length ps ≤ 16 → Ranged Can (S.Judges p ps before)
+judges-ranged l _ _ (S.is-resistant r) = record { verdict = omega arith; pairs = l; bytes = omega arith; subset = omega arith; hides = omega arith }
+judges-ranged {ps = ps} l _ _ (S.is-exposed {m} {i} h) =
     let j = exposure-index (h .hit) in
     let n : m < 65536 = numbers-most (length ps) (h .hit .numbered) l in
-    record { fair = fair-success (omega arith); verdict = omega arith; pairs = l; bytes = f; subset = n; hides = omega arith }
+    record { verdict = omega arith; pairs = l; bytes = files-most l (h .hit); subset = n; hides = omega arith }
+
+pub search-ranged : {s before : List ℕ} → Bytes s → Ranged Can (S.Searches s before)
+search-ranged b =
+    policy-ranged b (λ p f. the-ranged (λ ps h. refused-if-ranged refl (λ e. refused-if-ranged refl (λ d. judges-ranged (ltb-false 16 (length ps) e)))))

@@ -1,13 +1,11 @@
 -- What an operation knows of its files once they were accepted: the policy and the request that they hold.
 use Prim.Native.Nat.{ℕ, _≤_}
-use mathlib.Core.Path.{_≡_, refl, ap, _∙_}
-use mathlib.Core.Bool.{Bool, true, false}
+use mathlib.Core.Path.{_≡_, ap, _∙_}
 use mathlib.Core.List.{List, map}
 use native.Mathlib.Omega.{arith}
 use mir.Syntax.{w8}
 use mir.Val.{Fits}
 use lib.ListN.{length, getD, take, drop}
-use Rattle.ptacl.specs.Values.{Values, isEmpty, code}
 use Rattle.ptacl.specs.Request.{Request}
 use Rattle.ptacl.specs.Term.{policy, Policy}
 use Rattle.ptacl.specs.Pairs.{packed, unpacked}
@@ -73,25 +71,3 @@ request-sent {s} {r} b h z =
 
 pub ordered : {s : List ℕ} {r : RequestRead} → Sent s r → Ordered (take (r .count) (r .pairs))
 ordered q = record { rises = rw (q .pairs) (q .file .fits .ordered) }
-
--- ---- the set
-
-pub code-empty : (s : Values) → code s ≡ 0 → isEmpty s ≡ true
-unfolding isEmpty
-code-empty s e = go (s .has1) (s .has0) (s .hasU) e
-  where
-    go : (a b c : Bool) → code (record { has1 = a; has0 = b; hasU = c }) ≡ 0 → isEmpty (record { has1 = a; has0 = b; hasU = c }) ≡ true
-    go true b c e = absurd (omega arith)
-    go false true c e = absurd (omega arith)
-    go false false true e = absurd (omega arith)
-    go false false false e = refl
-
-pub code-some : (s : Values) → (code s ≡ 0 → ⊥) → isEmpty s ≡ false
-unfolding isEmpty
-code-some s n = go (s .has1) (s .has0) (s .hasU) n
-  where
-    go : (a b c : Bool) → (code (record { has1 = a; has0 = b; hasU = c }) ≡ 0 → ⊥) → isEmpty (record { has1 = a; has0 = b; hasU = c }) ≡ false
-    go true b c e = refl
-    go false true c e = refl
-    go false false true e = refl
-    go false false false e = absurd (e refl)

@@ -1,28 +1,22 @@
--- The promise of certify.
-use Prim.Native.Nat.{ℕ}
-use mathlib.Core.Path.{_≡_}
+-- The promise of certify. No memory is lent, so nothing (tt) is held before and after.
+use Prim.Native.Nat.{ℕ, _*_, _^_}
 use mathlib.Core.List.{List}
-use Rattle.ptacl.specs.Term.{Policy}
 use Rattle.ptacl.specs.Rules.{Certificate}
-use Rattle.files.specs.Encoding.{IsPolicy}
-use Rattle.files.specs.Refusal.{refused}
-use Rattle.files.specs.ReadPolicy.{readPolicy}
+use Rattle.sinkheron.specs.Answer.{Answer, refusal, success, Promise}
+use Rattle.sinkheron.specs.Ways.{OfPolicy, The, Gives}
 use Rattle.sinkheron.specs.declared.Certified.{Certified}
 
--- number, place, the certificate's number
-pub record Paper : Type 0 where
-  pub number : ℕ
-  pub place : ℕ
-  pub rule : ℕ
+-- the certificate's number; at the C face in bits 12 to 15
+abbrev pub answerOf : Certified → Answer ℕ
+answerOf (Certified.Refused n at) = refusal n at
+answerOf (Certified.By k) = success k
 
-abbrev pub paper : ℕ → ℕ → ℕ → Paper
-paper n at k = record { number = n; place = at; rule = k }
+abbrev pub bits : ℕ → ℕ
+bits k = k * 2 ^ 12
 
-abbrev pub paperOf : Certified → Paper
-paperOf (Certified.Refused n at) = paper n at 0
-paperOf (Certified.By k) = paper 0 0 k
-
--- the policy's refusals, the smallest number that applies or 0
-pub data Certifies (policy : List ℕ) : Paper → Type 0 where
-  policy-refused : {n at : ℕ} → readPolicy policy ≡ refused n at → Certifies policy (paper n at 0)
-  certified : {p : Policy} {k : ℕ} → IsPolicy policy p → Certificate p k → Certifies policy (paper 0 0 k)
+-- the policy's refusals; the smallest number that applies, or 0
+abbrev pub Certifies : List ℕ → Promise ℕ (Unit {0})
+Certifies policy =
+    OfPolicy policy tt (λ p.
+    The (Certificate p) (λ k.
+    Gives k tt))

@@ -1,6 +1,8 @@
+pub mod Answer
+pub mod Ways
 pub mod Decide
 pub mod ListPairs
 pub mod NormalForm
 pub mod Certify
 pub mod Search
-pub mod Word
+pub mod Handed

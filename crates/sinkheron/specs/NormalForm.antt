@@ -1,38 +1,25 @@
 -- The promise of normal_form.
-use Prim.Native.Nat.{ℕ, _<_, _≤_}
-use mathlib.Core.Path.{_≡_}
+use Prim.Native.Nat.{ℕ, _*_, _^_}
 use mathlib.Core.List.{List}
-use lib.ListN.{length}
-use Rattle.ptacl.specs.Request.{Request}
-use Rattle.ptacl.specs.Term.{Policy, atoms}
+use Rattle.ptacl.specs.Term.{atoms}
 use Rattle.ptacl.specs.Pairs.{IsNormal}
-use Rattle.files.specs.Encoding.{requestFile, IsPolicy, IsRequest}
-use Rattle.files.specs.Refusal.{refused}
-use Rattle.files.specs.ReadPolicy.{readPolicy}
-use Rattle.files.specs.ReadRequest.{readRequest}
-use Rattle.files.specs.Memory.{over}
+use Rattle.files.specs.Encoding.{requestFile}
+use Rattle.sinkheron.specs.Answer.{Answer, refusal, success, Promise}
+use Rattle.sinkheron.specs.Ways.{OfPolicy, OfRequest, The, Writes}
 use Rattle.sinkheron.specs.declared.Normalised.{Normalised}
 
--- number, place, the file's length
-pub record Paper : Type 0 where
-  pub number : ℕ
-  pub place : ℕ
-  pub bytes : ℕ
+-- the file's length; at the C face in bits 32 to 47
+abbrev pub answerOf : Normalised → Answer ℕ
+answerOf (Normalised.Refused n at) = refusal n at
+answerOf (Normalised.Written k) = success k
 
-abbrev pub paper : ℕ → ℕ → ℕ → Paper
-paper n at k = record { number = n; place = at; bytes = k }
+abbrev pub bits : ℕ → ℕ
+bits k = k * 2 ^ 32
 
-abbrev pub paperOf : Normalised → Paper
-paperOf (Normalised.Refused n at) = paper n at 0
-paperOf (Normalised.Written k) = paper 0 0 k
-
--- the policy's refusals, the request's, 13, the file of the normal form; with the lent space before and after
-pub data Normalises (policy request before : List ℕ) : Paper → List ℕ → Type 0 where
-  policy-refused : {n at : ℕ} → readPolicy policy ≡ refused n at → Normalises policy request before (paper n at 0) before
-  request-refused : {p : Policy} {n at : ℕ} → IsPolicy policy p → readRequest request ≡ refused n at
-      → Normalises policy request before (paper n at 0) before
-  too-small : {p : Policy} {q r : Request} → IsPolicy policy p → IsRequest request q → IsNormal (atoms p) q r
-      → length before < length (requestFile r) → Normalises policy request before (paper 13 0 0) before
-  written : {p : Policy} {q r : Request} → IsPolicy policy p → IsRequest request q → IsNormal (atoms p) q r
-      → length (requestFile r) ≤ length before
-      → Normalises policy request before (paper 0 0 (length (requestFile r))) (over (requestFile r) before)
+-- the policy's refusals; the request's; 13 or the file of the normal form; with the lent space before and after
+abbrev pub Normalises : List ℕ → List ℕ → List ℕ → Promise ℕ (List ℕ)
+Normalises policy request before =
+    OfPolicy policy before (λ p.
+    OfRequest request before (λ q.
+    The (IsNormal (atoms p) q) (λ r.
+    Writes (requestFile r) before)))

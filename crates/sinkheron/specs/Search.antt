@@ -1,58 +1,52 @@
 -- The promise of search.
-use Prim.Native.Nat.{ℕ, _<_, _≤_}
-use mathlib.Core.Path.{_≡_}
+use Prim.Native.Nat.{ℕ, _+_, _*_, _^_}
 use mathlib.Core.List.{List}
+use lib.Dec.{ltb}
 use lib.ListN.{length}
 use Rattle.ptacl.specs.Request.{Pair}
 use Rattle.ptacl.specs.Term.{Policy, atoms}
 use Rattle.ptacl.specs.Pairs.{IsPairs}
 use Rattle.ptacl.specs.Exposure.{Resistant, Exposure, First}
-use Rattle.files.specs.Encoding.{IsPolicy}
-use Rattle.files.specs.Refusal.{refused}
-use Rattle.files.specs.ReadPolicy.{readPolicy}
 use Rattle.files.specs.Memory.{over}
 use Rattle.search.specs.Found.{exposureFiles}
+use Rattle.sinkheron.specs.Answer.{Answer, refusal, success, Promise}
+use Rattle.sinkheron.specs.Ways.{OfPolicy, The, RefusedIf}
 use Rattle.sinkheron.specs.declared.Searched.{Searched}
 
--- number, place, verdict (0 resistant, 1 exposed), the number of pairs, m, i, bytes written
-pub record Paper : Type 0 where
-  pub number : ℕ
-  pub place : ℕ
+-- verdict (0 resistant, 1 exposed), the number of pairs, m, i, bytes written
+pub record Values : Type 0 where
   pub verdict : ℕ
   pub pairs : ℕ
   pub subset : ℕ
   pub hides : ℕ
   pub bytes : ℕ
 
-abbrev pub refusal : ℕ → ℕ → Paper
-refusal n at = record { number = n; place = at; verdict = 0; pairs = 0; subset = 0; hides = 0; bytes = 0 }
+abbrev pub resistant : ℕ → Answer Values
+resistant k = success (record { verdict = 0; pairs = k; subset = 0; hides = 0; bytes = 0 })
 
-abbrev pub resistant : ℕ → Paper
-resistant k = record { number = 0; place = 0; verdict = 0; pairs = k; subset = 0; hides = 0; bytes = 0 }
+abbrev pub exposed : ℕ → ℕ → ℕ → ℕ → Answer Values
+exposed k m i b = success (record { verdict = 1; pairs = k; subset = m; hides = i; bytes = b })
 
-abbrev pub exposed : ℕ → ℕ → ℕ → ℕ → Paper
-exposed k m i b = record { number = 0; place = 0; verdict = 1; pairs = k; subset = m; hides = i; bytes = b }
+abbrev pub answerOf : Searched → Answer Values
+answerOf (Searched.Refused n at) = refusal n at
+answerOf (Searched.Resistant k) = resistant k
+answerOf (Searched.Exposed k m i b) = exposed k m i b
 
-abbrev pub paperOf : Searched → Paper
-paperOf (Searched.Refused n at) = refusal n at
-paperOf (Searched.Resistant k) = resistant k
-paperOf (Searched.Exposed k m i b) = exposed k m i b
+-- the verdict in bit 8, the number of pairs in bits 16 to 23, bytes written in bits 24 to 31, m in bits 32 to 47, i in bits 48 to 63
+abbrev pub bits : Values → ℕ
+bits v = v .verdict * 2 ^ 8 + v .pairs * 2 ^ 16 + v .bytes * 2 ^ 24 + v .subset * 2 ^ 32 + v .hides * 2 ^ 48
 
--- the policy and its pairs, of which there are at most 16, and a space of at least 130 bytes
-pub record Searchable (policy before : List ℕ) (p : Policy) (ps : List Pair) : Type 0 where
-  pub file : IsPolicy policy p
-  pub pairs : IsPairs (atoms p) ps
-  pub few : length ps ≤ 16
-  pub room : 130 ≤ length before
+-- resistant, or the first exposure
+pub data Judges (p : Policy) (ps : List Pair) (before : List ℕ) : Answer Values → List ℕ → Type 0 where
+  is-resistant : Resistant p → Judges p ps before (resistant (length ps)) before
+  is-exposed : {m i : ℕ} → First (Exposure p ps) m i
+      → Judges p ps before (exposed (length ps) m i (length (exposureFiles ps m i))) (over (exposureFiles ps m i) before)
 
--- the policy's refusals, 12, 13, resistant, the first exposure; with the lent space before and after
-pub data Searches (policy before : List ℕ) : Paper → List ℕ → Type 0 where
-  policy-refused : {n at : ℕ} → readPolicy policy ≡ refused n at → Searches policy before (refusal n at) before
-  too-many : {p : Policy} {ps : List Pair} → IsPolicy policy p → IsPairs (atoms p) ps → 16 < length ps
-      → Searches policy before (refusal 12 0) before
-  too-small : {p : Policy} {ps : List Pair} → IsPolicy policy p → IsPairs (atoms p) ps → length ps ≤ 16 → length before < 130
-      → Searches policy before (refusal 13 0) before
-  is-resistant : {p : Policy} {ps : List Pair} → Searchable policy before p ps → Resistant p
-      → Searches policy before (resistant (length ps)) before
-  is-exposed : {p : Policy} {ps : List Pair} {m i : ℕ} → Searchable policy before p ps → First (Exposure p ps) m i
-      → Searches policy before (exposed (length ps) m i (length (exposureFiles ps m i))) (over (exposureFiles ps m i) before)
+-- the policy's refusals; 12; 13; the verdict; with the lent space before and after
+abbrev pub Searches : List ℕ → List ℕ → Promise Values (List ℕ)
+Searches policy before =
+    OfPolicy policy before (λ p.
+    The (IsPairs (atoms p)) (λ ps.
+    RefusedIf (ltb 16 (length ps)) 12 0 before
+    (RefusedIf (ltb (length before) 130) 13 0 before
+    (Judges p ps before))))

@@ -6,7 +6,7 @@ ghost use Rattle.sinkheron.specs.ListPairs as L;
 ghost use Rattle.sinkheron.specs.NormalForm as N;
 ghost use Rattle.sinkheron.specs.Certify as C;
 ghost use Rattle.sinkheron.specs.Search as S;
-ghost use Rattle.sinkheron.specs.Word.{decideWord, listPairsWord, normalFormWord, certifyWord, searchWord, Says};
+ghost use Rattle.sinkheron.specs.Answer.{Says};
 use crate::Certified;
 use crate::Decision;
 use crate::Listing;
@@ -35,7 +35,7 @@ fn exposure(pairs: usize, bytes: usize, m: usize, i: usize) -> u64
 
 #[no_mangle]
 pub extern "C" fn sinkheron_decide(policy: &[u8], request: &[u8]) -> u64
-    ensures { λ r. ⌜ Says decideWord (D.Decides (now (policy .entry)) (now (request .entry))) r ⌝ }
+    ensures { λ r. ⌜ Says D.answerOf D.bits (D.Decides (now (policy .entry)) (now (request .entry))) r tt ⌝ }
 {
     match crate::decide(policy, request) {
         Decision::Refused { number, place } => refusal(number, place),
@@ -45,7 +45,7 @@ pub extern "C" fn sinkheron_decide(policy: &[u8], request: &[u8]) -> u64
 
 #[no_mangle]
 pub extern "C" fn sinkheron_list_pairs(policy: &[u8], pairs: &mut [u32]) -> u64
-    ensures { λ r. ⌜ Says listPairsWord (λ x. L.Lists (now (policy .entry)) (now (pairs .entry)) x (now (pairs .exit))) r ⌝ }
+    ensures { λ r. ⌜ Says L.answerOf L.bits (L.Lists (now (policy .entry)) (now (pairs .entry))) r (now (pairs .exit)) ⌝ }
 {
     match crate::list_pairs(policy, pairs) {
         Listing::Refused { number, place } => refusal(number, place),
@@ -55,7 +55,7 @@ pub extern "C" fn sinkheron_list_pairs(policy: &[u8], pairs: &mut [u32]) -> u64
 
 #[no_mangle]
 pub extern "C" fn sinkheron_normal_form(policy: &[u8], request: &[u8], space: &mut [u8]) -> u64
-    ensures { λ r. ⌜ Says normalFormWord (λ x. N.Normalises (now (policy .entry)) (now (request .entry)) (now (space .entry)) x (now (space .exit))) r ⌝ }
+    ensures { λ r. ⌜ Says N.answerOf N.bits (N.Normalises (now (policy .entry)) (now (request .entry)) (now (space .entry))) r (now (space .exit)) ⌝ }
 {
     match crate::normal_form(policy, request, space) {
         Normalised::Refused { number, place } => refusal(number, place),
@@ -65,7 +65,7 @@ pub extern "C" fn sinkheron_normal_form(policy: &[u8], request: &[u8], space: &m
 
 #[no_mangle]
 pub extern "C" fn sinkheron_certify(policy: &[u8]) -> u64
-    ensures { λ r. ⌜ Says certifyWord (C.Certifies (now (policy .entry))) r ⌝ }
+    ensures { λ r. ⌜ Says C.answerOf C.bits (C.Certifies (now (policy .entry))) r tt ⌝ }
 {
     match crate::certify(policy) {
         Certified::Refused { number, place } => refusal(number, place),
@@ -75,7 +75,7 @@ pub extern "C" fn sinkheron_certify(policy: &[u8]) -> u64
 
 #[no_mangle]
 pub extern "C" fn sinkheron_search(policy: &[u8], space: &mut [u8]) -> u64
-    ensures { λ r. ⌜ Says searchWord (λ x. S.Searches (now (policy .entry)) (now (space .entry)) x (now (space .exit))) r ⌝ }
+    ensures { λ r. ⌜ Says S.answerOf S.bits (S.Searches (now (policy .entry)) (now (space .entry))) r (now (space .exit)) ⌝ }
 {
     match crate::search(policy, space) {
         Searched::Refused { number, place } => refusal(number, place),

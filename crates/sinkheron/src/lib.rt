@@ -50,7 +50,7 @@ pub enum Searched {
 
 // What the policy comes to for the request. Only allow alone, the set's code 1, releases.
 pub fn decide(policy: &[u8], request: &[u8]) -> Decision
-    ensures { λ r. ⌜ D.Decides (now (policy .entry)) (now (request .entry)) (D.paperOf r) ⌝ }
+    ensures { λ r. ⌜ D.Decides (now (policy .entry)) (now (request .entry)) (D.answerOf r) tt ⌝ }
 {
     if let PolicyRead::Refused { number, place } = files::policy::read_policy(policy) {
         return Decision::Refused { number, place };
@@ -78,7 +78,7 @@ pub fn decide(policy: &[u8], request: &[u8]) -> Decision
 
 // The policy's pairs at the front of `pairs`, each name * 65536 + value.
 pub fn list_pairs(policy: &[u8], pairs: &mut [u32]) -> Listing
-    ensures { λ r. ⌜ L.Lists (now (policy .entry)) (now (pairs .entry)) (L.paperOf r) (now (pairs .exit)) ⌝ }
+    ensures { λ r. ⌜ L.Lists (now (policy .entry)) (now (pairs .entry)) (L.answerOf r) (now (pairs .exit)) ⌝ }
 {
     if let PolicyRead::Refused { number, place } = files::policy::read_policy(policy) {
         return Listing::Refused { number, place };
@@ -98,7 +98,7 @@ pub fn list_pairs(policy: &[u8], pairs: &mut [u32]) -> Listing
 
 // The normal form of a request, as a request file at the front of `space`.
 pub fn normal_form(policy: &[u8], request: &[u8], space: &mut [u8]) -> Normalised
-    ensures { λ r. ⌜ N.Normalises (now (policy .entry)) (now (request .entry)) (now (space .entry)) (N.paperOf r) (now (space .exit)) ⌝ }
+    ensures { λ r. ⌜ N.Normalises (now (policy .entry)) (now (request .entry)) (now (space .entry)) (N.answerOf r) (now (space .exit)) ⌝ }
 {
     if let PolicyRead::Refused { number, place } = files::policy::read_policy(policy) {
         return Normalised::Refused { number, place };
@@ -128,7 +128,7 @@ pub fn normal_form(policy: &[u8], request: &[u8], space: &mut [u8]) -> Normalise
 
 // The smallest number of a structural rule that applies to the policy, or 0.
 pub fn certify(policy: &[u8]) -> Certified
-    ensures { λ r. ⌜ C.Certifies (now (policy .entry)) (C.paperOf r) ⌝ }
+    ensures { λ r. ⌜ C.Certifies (now (policy .entry)) (C.answerOf r) tt ⌝ }
 {
     if let PolicyRead::Refused { number, place } = files::policy::read_policy(policy) {
         return Certified::Refused { number, place };
@@ -141,7 +141,7 @@ pub fn certify(policy: &[u8]) -> Certified
 
 // The first exposure of a policy of at most 16 pairs, its two request files at the front of `space`; or that it is resistant.
 pub fn search(policy: &[u8], space: &mut [u8]) -> Searched
-    ensures { λ r. ⌜ S.Searches (now (policy .entry)) (now (space .entry)) (S.paperOf r) (now (space .exit)) ⌝ }
+    ensures { λ r. ⌜ S.Searches (now (policy .entry)) (now (space .entry)) (S.answerOf r) (now (space .exit)) ⌝ }
 {
     if let PolicyRead::Refused { number, place } = files::policy::read_policy(policy) {
         return Searched::Refused { number, place };

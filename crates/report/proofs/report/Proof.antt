@@ -1,11 +1,10 @@
 -- `report` is safe and ends: what `list_pairs` promises keeps the pairs within the 254 numbers lent.
 use Prim.Native.Nat.{ℕ, _≤_}
 use mathlib.Core.Path.{_≡_, sym}
-use mathlib.Core.List.{List}
 use native.Mathlib.Omega.{arith}
 use lib.ListN.{length}
 use lib.Seq.{length-take-le}
-use Rattle.sinkheron.specs.ListPairs.{Paper, Lists, policy-refused, too-small, listed}
+use Rattle.sinkheron.proofs.ListPairsOne.{listed-fits}
 use borrow.Author.Needs.{needs}
 use Rattle.report.proofs.report.Statement.{statement}
 use Rattle.report.proofs.report.Tie as tie
@@ -15,12 +14,6 @@ use Rattle.report.proofs.refusal_line.Reads as refusal-line-reads
 use Rattle.report.proofs.report_on.Reads as report-on-reads
 use Rattle.sinkheron.proofs.list_pairs.Reads as list-pairs-reads
 
--- the list has no more pairs than the slice that was lent for it
-few : {file before after : List ℕ} {x : Paper} → Lists file before x after → x .pairs ≤ length before
-few (policy-refused e) = omega arith
-few (too-small p ps h) = omega arith
-few (listed p ps h) = h
-
 abbrev cs : lts.Claims
 cs =
     (list-pairs-reads.Asked, list-pairs-reads.Learnt, refusal-line-reads.Asked, refusal-line-reads.Learnt, report-on-reads.Asked, report-on-reads.Learnt)
@@ -29,7 +22,7 @@ cs =
 fits : (c : lts.After-count cs reads.Pre reads.Post) → c .count .given .0 .0 ≤ length (c .before .before .before .list-pairs .last .1 .0)
 fits c =
     let l : length (c .before .before .before .list-pairs .last .1 .0) ≡ 254 = search needs in
-    omega (arith, rw (c .count .given .1) at (few (c .before .before .before .list-pairs .ensures)))
+    omega (arith, listed-fits (rw (c .count .given .1) at (c .before .before .before .list-pairs .ensures)))
 
 slice-aggregate-list-pairs : tie.Need-slice-aggregate-list-pairs
 slice-aggregate-list-pairs c = search needs

@@ -3,7 +3,7 @@ use borrow.Author.Needs.{needs}
 use mathlib.Core.Path.{sym, _∙_}
 use Rattle.files.proofs.View.{policy-refused}
 use Rattle.certify.proofs.Laws as laws
-use Rattle.sinkheron.specs.Certify.{policy-refused as refusal, certified}
+use Rattle.sinkheron.specs.Ways.{unread, holding, the, gives}
 use Rattle.sinkheron.proofs.Taken.{Taken, policy-taken}
 use Rattle.sinkheron.proofs.certify.Statement.{statement}
 use Rattle.sinkheron.proofs.certify.Tie as tie
@@ -26,7 +26,7 @@ enum-known-number : tie.Need-enum-known-number
 enum-known-number c = search needs
 
 returns : tie.Need-returns
-returns c = refusal (policy-refused _ (sym (c .before .before .before .read-policy .ensures) ∙ c .before .number .given .1))
+returns c = unread (policy-refused _ (sym (c .before .before .before .read-policy .ensures) ∙ c .before .number .given .1))
 
 enum-told : tie.Need-enum-told
 enum-told c = search needs
@@ -37,7 +37,7 @@ certificate-at-requires c κs = its-policy c .has
 returns-2 : tie.Need-returns-2
 returns-2 c =
     let p = its-policy (c .before) in
-    certified (p .file) (laws.certified (c .certificate-at .ensures) (p .here))
+    holding (p .file) (the (laws.certified (c .certificate-at .ensures) (p .here)) gives)
 
 pub certify-spec : {M : Type 1} → statement M
 certify-spec =

@@ -5,12 +5,13 @@ use native.Mathlib.Omega.{arith}
 use Prim.Native.Nat.{_≤_}
 use lib.ListN.{length}
 use lib.Seq.{length-take-le}
-use Rattle.sinkheron.specs.Decide.{policy-refused as refusal, request-refused, empty, decided}
+use Rattle.sinkheron.specs.Ways.{unread, holding}
 use Rattle.files.proofs.View.{policy-refused}
 use Rattle.ptacl.specs.Values.{code}
 use Rattle.ptacl.specs.Meaning.{eval}
 use Rattle.files.proofs.RequestExact.{request-not-held}
-use Rattle.sinkheron.proofs.Taken.{Taken, policy-taken, Sent, request-sent, ordered, code-empty, code-some}
+use Rattle.sinkheron.proofs.Taken.{Taken, policy-taken, Sent, request-sent, ordered}
+use Rattle.sinkheron.proofs.Written.{empty-set, some-set}
 use Rattle.sinkheron.proofs.decide.Statement.{statement}
 use Rattle.sinkheron.proofs.decide.Tie as tie
 use Rattle.sinkheron.proofs.decide.Reads as reads
@@ -50,7 +51,7 @@ enum-known-number : tie.Need-enum-known-number
 enum-known-number c = search needs
 
 returns : tie.Need-returns
-returns c = refusal (policy-refused _ (sym (c .before .before .before .read-policy .ensures) ∙ c .before .number .given .1))
+returns c = unread (policy-refused _ (sym (c .before .before .before .read-policy .ensures) ∙ c .before .number .given .1))
 
 enum-told : tie.Need-enum-told
 enum-told c = search needs
@@ -59,7 +60,7 @@ read-request-requires : tie.Need-read-request-requires
 read-request-requires c κs = search needs
 
 returns-2 : tie.Need-returns-2
-returns-2 c = request-refused (its-policy (c .before .before) .file) (request-not-held _ _ (c .before .read-request .ensures) (c .if1 .taken))
+returns-2 c = holding (its-policy (c .before .before) .file) (unread (request-not-held _ _ (c .before .read-request .ensures) (c .if1 .taken)))
 
 array-share-prefix-pairs : tie.Need-array-share-prefix-pairs
 array-share-prefix-pairs c = fits (c .before)
@@ -72,14 +73,13 @@ eval-policy-requires c κs = (its-policy (c .before .before .before .before) .ha
 
 returns-3 : tie.Need-returns-3
 returns-3 c =
-    empty (its-policy (c .before .before .before .before .before .before .before .before) .file) (its-request (c .before .before .before .before .before .before) .file)
-    (code-empty _ (sym (its-set (c .before .before .before)) ∙ c .if2 .taken))
+    empty-set (its-policy (c .before .before .before .before .before .before .before .before) .file)
+    (its-request (c .before .before .before .before .before .before) .file) (its-set (c .before .before .before)) (c .if2 .taken)
 
 returns-4 : tie.Need-returns-4
 returns-4 c =
-    rw (its-set (c .before .before .before))
-    (decided (its-policy (c .before .before .before .before .before .before .before .before) .file) (its-request (c .before .before .before .before .before .before) .file)
-    (code-some _ (λ e. c .if2 .left (its-set (c .before .before .before) ∙ e))))
+    some-set (its-policy (c .before .before .before .before .before .before .before .before) .file)
+    (its-request (c .before .before .before .before .before .before) .file) (its-set (c .before .before .before)) (c .if2 .left)
 
 pub decide-spec : {M : Type 1} → statement M
 decide-spec =

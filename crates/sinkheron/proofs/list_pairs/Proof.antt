@@ -8,9 +8,9 @@ use Rattle.ptacl.specs.Term.{atoms}
 use Rattle.ptacl.specs.Pairs.{IsPairs}
 use Rattle.files.proofs.View.{policy-refused}
 use Rattle.pairs.proofs.Callers.{Listed, pairs-listed}
-use Rattle.sinkheron.specs.ListPairs.{policy-refused as refusal, too-small}
+use Rattle.sinkheron.specs.Ways.{unread}
 use Rattle.sinkheron.proofs.Taken.{Taken, policy-taken, encoded}
-use Rattle.sinkheron.proofs.Written.{list-written}
+use Rattle.sinkheron.proofs.Written.{list-too-long, list-written}
 use Rattle.sinkheron.proofs.list_pairs.Statement.{statement}
 use Rattle.sinkheron.proofs.list_pairs.Tie as tie
 use Rattle.sinkheron.proofs.list_pairs.Reads as reads
@@ -42,7 +42,7 @@ enum-known-number : tie.Need-enum-known-number
 enum-known-number c = search needs
 
 returns : tie.Need-returns
-returns c = refusal (policy-refused _ (sym (c .before .before .before .read-policy .ensures) ∙ c .before .number .given .1))
+returns c = unread (policy-refused _ (sym (c .before .before .before .read-policy .ensures) ∙ c .before .number .given .1))
 
 enum-told : tie.Need-enum-told
 enum-told c = search needs
@@ -52,8 +52,7 @@ pairs-of-requires c κs = (its-policy c .long, encoded (its-policy c))
 
 returns-2 : tie.Need-returns-2
 returns-2 c =
-    let l = its-pairs (c .before .before) in
-    too-small (its-policy (c .before .before .before) .file) (l .right) (omega (arith, l .size, c .if1 .taken))
+    list-too-long (its-policy (c .before .before .before) .file) _ (its-pairs (c .before .before)) (c .if1 .taken)
 
 array-share-prefix-list : tie.Need-array-share-prefix-list
 array-share-prefix-list c = fits (c .before .before)

@@ -8,12 +8,11 @@ use lib.Seq.{length-take-le}
 use Rattle.ptacl.specs.Term.{atoms}
 use Rattle.ptacl.specs.Pairs.{IsNormal}
 use Rattle.files.proofs.RequestExact.{request-not-held}
-use Rattle.files.proofs.Memory.{request-length}
 use Rattle.files.proofs.View.{policy-refused}
 use Rattle.pairs.proofs.Callers.{Listed, normal-listed}
-use Rattle.sinkheron.specs.NormalForm.{policy-refused as refusal, request-refused, too-small}
+use Rattle.sinkheron.specs.Ways.{unread, holding}
 use Rattle.sinkheron.proofs.Taken.{Taken, policy-taken, encoded, Sent, request-sent, ordered}
-use Rattle.sinkheron.proofs.Written.{file-written}
+use Rattle.sinkheron.proofs.Written.{file-too-long, file-written}
 use Rattle.sinkheron.proofs.normal_form.Statement.{statement}
 use Rattle.sinkheron.proofs.normal_form.Tie as tie
 use Rattle.sinkheron.proofs.normal_form.Reads as reads
@@ -68,7 +67,7 @@ enum-known-number : tie.Need-enum-known-number
 enum-known-number c = search needs
 
 returns : tie.Need-returns
-returns c = refusal (policy-refused _ (sym (c .before .before .before .read-policy .ensures) ∙ c .before .number .given .1))
+returns c = unread (policy-refused _ (sym (c .before .before .before .read-policy .ensures) ∙ c .before .number .given .1))
 
 enum-told : tie.Need-enum-told
 enum-told c = search needs
@@ -77,7 +76,7 @@ read-request-requires : tie.Need-read-request-requires
 read-request-requires c κs = search needs
 
 returns-2 : tie.Need-returns-2
-returns-2 c = request-refused (its-policy (c .before .before) .file) (request-not-held _ _ (c .before .read-request .ensures) (c .if1 .taken))
+returns-2 c = holding (its-policy (c .before .before) .file) (unread (request-not-held _ _ (c .before .read-request .ensures) (c .if1 .taken)))
 
 array-share-prefix-held : tie.Need-array-share-prefix-held
 array-share-prefix-held c = held-fits (c .before)
@@ -97,9 +96,8 @@ add-if2 c = omega (arith, fits (c .before))
 
 returns-3 : tie.Need-returns-3
 returns-3 c =
-    let l = its-form (c .before .before) in
-    too-small (its-policy (c .before .before .before .before .before .before .before) .file) (its-request (c .before .before .before .before .before) .file) (l .right)
-    (omega (arith, request-length (l .pairs), l .size, c .if2 .taken))
+    file-too-long (its-policy (c .before .before .before .before .before .before .before) .file) _
+    (its-request (c .before .before .before .before .before) .file) (its-form (c .before .before)) (c .if2 .taken)
 
 array-share-prefix-list : tie.Need-array-share-prefix-list
 array-share-prefix-list c =

@@ -4,11 +4,13 @@ use Prim.Native.Nat.{_≤_}
 use mathlib.Core.Path.{_≡_, sym, _∙_}
 use native.Mathlib.Omega.{arith}
 use lib.ListN.{length}
+use borrow.Author.Tests.{lt-ltb, le-ltb}
 use Rattle.ptacl.specs.Term.{atoms}
 use Rattle.ptacl.specs.Pairs.{IsPairs}
 use Rattle.files.proofs.View.{policy-refused}
 use Rattle.pairs.proofs.Callers.{Listed, pairs-listed}
-use Rattle.sinkheron.specs.Search.{Searches, policy-refused as refusal, too-many, too-small}
+use Rattle.sinkheron.specs.Search.{Searches}
+use Rattle.sinkheron.specs.Ways.{unread, holding, the, stops, passes}
 use Rattle.sinkheron.proofs.Taken.{Taken, policy-taken, encoded}
 use Rattle.sinkheron.proofs.Written.{answer, searched}
 use Rattle.sinkheron.proofs.search.Statement.{statement}
@@ -46,7 +48,7 @@ enum-known-number : tie.Need-enum-known-number
 enum-known-number c = search needs
 
 returns : tie.Need-returns
-returns c = refusal (policy-refused _ (sym (c .before .before .before .read-policy .ensures) ∙ c .before .number .given .1))
+returns c = unread (policy-refused _ (sym (c .before .before .before .read-policy .ensures) ∙ c .before .number .given .1))
 
 enum-told : tie.Need-enum-told
 enum-told c = search needs
@@ -57,12 +59,13 @@ pairs-of-requires c κs = (its-policy c .long, encoded (its-policy c))
 returns-2 : tie.Need-returns-2
 returns-2 c =
     let l = its-pairs (c .before .before) in
-    too-many (its-policy (c .before .before .before) .file) (l .right) (omega (arith, l .size, c .if1 .taken))
+    holding (its-policy (c .before .before .before) .file) (the (l .right) (stops (lt-ltb 16 (length (l .pairs)) (omega (arith, l .size, c .if1 .taken)))))
 
 returns-3 : tie.Need-returns-3
 returns-3 c =
     let l = its-pairs (c .before .before .before) in
-    too-small (its-policy (c .before .before .before .before) .file) (l .right) (omega (arith, l .size, c .before .if1 .left)) (c .if2 .taken)
+    holding (its-policy (c .before .before .before .before) .file)
+    (the (l .right) (passes (le-ltb 16 (length (l .pairs)) (omega (arith, l .size, c .before .if1 .left))) (stops (lt-ltb _ _ (c .if2 .taken)))))
 
 array-share-prefix-list : tie.Need-array-share-prefix-list
 array-share-prefix-list c =

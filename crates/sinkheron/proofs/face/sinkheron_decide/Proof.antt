@@ -1,10 +1,8 @@
 -- `sinkheron_decide` packs an answer that the promise permits.
 use borrow.Author.Needs.{needs}
-use mathlib.Core.Path.{_∙_}
 use native.Mathlib.Omega.{arith}
 use Rattle.files.proofs.Framing.{lent-bytes}
-use Rattle.sinkheron.proofs.Ranges.{decide-fair}
-use Rattle.sinkheron.proofs.WordOne.{refused-word}
+use Rattle.sinkheron.proofs.Ranges.{decide-ranged}
 use Rattle.sinkheron.proofs.face.sinkheron_decide.Statement.{statement}
 use Rattle.sinkheron.proofs.face.sinkheron_decide.Tie as tie
 
@@ -15,7 +13,7 @@ enum-known-number : tie.Need-enum-known-number
 enum-known-number c = search needs
 
 refusal-requires : tie.Need-refusal-requires
-refusal-requires c κs = decide-fair (lent-bytes (c .before .before .before .before .before .shared-slice-known .given)) (rw (c .before .number .given .1) at (c .before .before .before .decide .ensures)) .near
+refusal-requires c κs = decide-ranged (lent-bytes (c .before .before .before .before .before .shared-slice-known .given)) _ _ (rw (c .before .number .given .1) at (c .before .before .before .decide .ensures)) .2
 
 enum-known-set : tie.Need-enum-known-set
 enum-known-set c = search needs
@@ -27,12 +25,18 @@ mul-result : tie.Need-mul-result
 mul-result c = search needs
 
 returns : tie.Need-returns
-returns c =
-    let d = (rw (c .before .before .number .given .1) at (c .before .before .before .before .decide .ensures)) in
-    record { answer = _; permitted = d; is-word = c .refusal .ensures ∙ refused-word (decide-fair (lent-bytes (c .before .before .before .before .before .before .shared-slice-known .given)) d) }
+returns c = record {
+  answer = c .before .before .before .before .decide .result;
+  permitted = c .before .before .before .before .decide .ensures;
+  is-word = rw (c .before .before .number .given .1) (omega (arith, c .refusal .ensures));
+}
 
 returns-2 : tie.Need-returns-2
-returns-2 c = record { answer = _; permitted = (rw (c .before .before .set .given .1) at (c .before .before .before .before .decide .ensures)); is-word = omega arith }
+returns-2 c = record {
+  answer = c .before .before .before .before .decide .result;
+  permitted = c .before .before .before .before .decide .ensures;
+  is-word = rw (c .before .before .set .given .1) (omega arith);
+}
 
 pub sinkheron-decide-spec : {M : Type 1} → statement M
 sinkheron-decide-spec =
