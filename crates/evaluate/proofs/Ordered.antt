@@ -1,16 +1,18 @@
 -- Pairs as numbers in ascending order: the numbers rise, what the list holds are its entries, and looking one up by halving.
-use Prim.Native.Nat.{ℕ, zero, suc, _+_, _*_, _/_, _≤_, _<_}
+use Prim.Native.Nat.{ℕ, zero, suc, _+_, _-_, _/_, _%_, _≤_, _<_}
 use mathlib.Core.Path.{_≡_, refl, sym, ap, subst, _∙_}
 use mathlib.Core.Bool.{true, false}
 use mathlib.Core.List.{List, [], _∷_, map}
 use native.Mathlib.Decide.{decLt}
 use native.Mathlib.Omega.{arith}
-use lib.Dec.{eqb, ltb}
+use lib.Dec.{ltb}
 use lib.ListN.{length, getD}
-use borrow.Author.Tests.{eq-eqb, eqb-true, ltb-true}
-use Rattle.ptacl.specs.Request.{Pair, samePair, holds, has, below, belowHead, ascending}
+use borrow.Author.Tests.{ltb-true}
+use Rattle.ptacl.specs.Value.{Value, v1, v0, vU, same}
+use Rattle.ptacl.specs.Meaning.{atomAt}
+use Rattle.ptacl.specs.Request.{Pair, Request, samePair, holds, has, below, belowHead, ascending}
 use Rattle.ptacl.specs.Pairs.{packed, unpacked}
-use Rattle.ptacl.proofs.Bools.{clash, and-right, or-right, iff, refute}
+use Rattle.ptacl.proofs.Bools.{either, clash, and-right, or-right, refute}
 use Rattle.ptacl.proofs.Requests.{holds-head, found, holds-has, has-holds}
 use Rattle.ptacl.proofs.Order.{head-below}
 use Rattle.files.proofs.Numbers.{packed-unpacked, below-packed}
@@ -109,26 +111,37 @@ module _ {list : List ℕ} (o : Ordered list) (x place : ℕ) (p : PlaceOf list 
       let e = ap packed (r .value) in
       omega (arith, first-from (r .place) (r .inside) (omega arith))
 
-  pub pair-there : place < length list → eqb (getD list place 0) x ≡ holds (map unpacked list) (unpacked x)
-  pair-there l = iff
-      (λ h. subst (λ z. holds (map unpacked list) (unpacked z) ≡ true) (eqb-true _ _ h) (entry-held list place l))
-      (λ h. eq-eqb _ _ (pair-from h .1))
+-- an atom by the numbers at the place of its pair and before it: names rise too, so no other can have its name
+module _ {list : List ℕ} (o : Ordered list) (x place : ℕ) (p : PlaceOf list x place) where
+  abbrev Is : Value → Type 0
+  Is v = v ≡ atomAt (map unpacked list) (x / 65536) (x % 65536)
 
-  pub pair-absent : length list ≤ place → holds (map unpacked list) (unpacked x) ≡ false
-  pair-absent l = refute (λ h. omega (arith, pair-from h))
+  abbrev Other : Type 0
+  Other = place < length list → getD list place 0 ≡ x → ⊥
 
-module _ {list : List ℕ} (o : Ordered list) (n place : ℕ) (p : PlaceOf list (n * 65536) place) where
-  name-from : has (map unpacked list) n ≡ true → (place < length list) × (getD list place 0 / 65536 ≡ n)
-  name-from h =
-      let v = has-holds (map unpacked list) n h in
-      let r = held-entry list (n, v .0) (v .1) in
-      let e = ap (λ z. z .0) (r .value) in
-      omega (arith, first-from o (n * 65536) place p (r .place) (r .inside) (omega arith))
+  not-held : Other → holds (map unpacked list) (unpacked x) ≡ false
+  not-held n = refute (λ h. let r = pair-from o x place p h in n (r .0) (r .1))
 
-  pub name-there : place < length list → eqb (getD list place 0 / 65536) n ≡ has (map unpacked list) n
-  name-there l = iff
-      (λ h. subst (λ z. has (map unpacked list) z ≡ true) (eqb-true _ _ h) (holds-has (map unpacked list) _ (entry-held list place l)))
-      (λ h. eq-eqb _ _ (name-from h .1))
+  pub atom-one : place < length list → getD list place 0 ≡ x → Is v1
+  atom-one l e = rw (subst (λ z. holds (map unpacked list) (unpacked z) ≡ true) e (entry-held list place l))
 
-  pub name-absent : length list ≤ place → has (map unpacked list) n ≡ false
-  name-absent l = refute (λ h. omega (arith, name-from h))
+  pub atom-zero : (i : ℕ) → i < length list → getD list i 0 / 65536 ≡ x / 65536 → Other → Is v0
+  atom-zero i l e n = rw (not-held n, subst (λ z. has (map unpacked list) z ≡ true) e (holds-has (map unpacked list) _ (entry-held list i l)))
+
+  pub atom-missing : (place < length list → getD list place 0 / 65536 ≡ x / 65536 → ⊥)
+      → (0 < place → getD list (place - 1) 0 / 65536 ≡ x / 65536 → ⊥) → Is vU
+  atom-missing m n = rw (not-held (λ l e. m l (ap (λ z. z / 65536) e)), refute unnamed)
+    where
+      unnamed : has (map unpacked list) (x / 65536) ≡ true → ⊥
+      unnamed h =
+          let v = has-holds (map unpacked list) (x / 65536) h in
+          let r = held-entry list (x / 65536, v .0) (v .1) in
+          let e : getD list (r .place) 0 / 65536 ≡ x / 65536 = ap (λ z. z .0) (r .value) in
+          elim (decLt (r .place) place) [
+            | yes l ↦ n (omega arith) (omega (arith, p .before (place - 1) (omega arith), rises-on o (r .place) (place - 1) (omega arith) (omega (arith, p .most))))
+            | no k ↦ m (omega (arith, r .inside)) (omega (arith, p .behind place (omega arith) (omega (arith, r .inside)), rises-on o place (r .place) (omega arith) (r .inside)))
+          ]
+
+-- the pair of an atom that is 1 is held, and no other
+pub is-held : (q : Request) (x : Pair) → same (atomAt q (x .0) (x .1)) v1 ≡ holds q x
+is-held q x = either (holds q x) (λ h. rw h) (λ h. rw h (either (has q (x .0)) (λ k. rw k) (λ k. rw k)))

@@ -1,21 +1,26 @@
-// Pairs as numbers in ascending order: looking one up by halving.
+// Looking a pair up in the bytes of a request file, whose pairs ascend.
 ghost use mathlib.Core.Path.{_≡_};
 ghost use mathlib.Core.List.{map};
-ghost use Prim.Native.Nat.{_<_};
-ghost use Rattle.ptacl.specs.Request.{holds, has};
+ghost use Prim.Native.Nat.{_/_, _%_};
+ghost use Rattle.ptacl.specs.Request as R;
+ghost use Rattle.ptacl.specs.Meaning.{atomAt};
 ghost use Rattle.ptacl.specs.Pairs.{unpacked};
-ghost use Rattle.evaluate.specs.Ordered.{Ordered, PlaceOf};
+ghost use Rattle.ptacl.specs.Cases.{valueOf};
+ghost use Rattle.files.specs.Places.{numbersOf};
+ghost use Rattle.evaluate.specs.Ordered.{OrderedFile, PlaceOf};
+use files::request;
+use ptacl::TargetValue;
 
-// The place of the first number that is not below x.
-fn place_of(list: &[u32], x: u32) -> usize
-    requires { ⌜ Ordered (now list) ⌝ }
-    ensures { λ r. ⌜ PlaceOf (now (list .entry)) x r ⌝ }
+// The number of the first pair that is not below this one, by halving.
+fn place_of(file: &[u8], pair: u32) -> usize
+    requires { ⌜ OrderedFile (now file) ⌝ }
+    ensures { λ r. ⌜ PlaceOf (numbersOf (now (file .entry))) pair r ⌝ }
 {
     let mut low = 0;
-    let mut high = list.len();
+    let mut high = request::count(file);
     while low < high {
         let middle = low + (high - low) / 2;
-        if list[middle] < x {
+        if request::nth(file, middle) < pair {
             low = middle + 1;
         } else {
             high = middle;
@@ -24,26 +29,38 @@ fn place_of(list: &[u32], x: u32) -> usize
     low
 }
 
-// Whether the pair is in the list.
-pub fn holds_pair(list: &[u32], pair: u32) -> bool
-    requires { ⌜ Ordered (now list) ⌝ }
-    ensures { λ r. ⌜ r ≡ holds (map unpacked (now (list .entry))) (unpacked pair) ⌝ }
+// The value of the atom with this pair. If the request holds its name at all, then at the pair's place or just before it.
+pub fn atom(file: &[u8], pair: u32) -> TargetValue
+    requires { ⌜ OrderedFile (now file) ⌝ }
+    ensures { λ r. ⌜ valueOf r ≡ atomAt (map unpacked (numbersOf (now (file .entry)))) (pair / 65536) (pair % 65536) ⌝ }
 {
-    let at = place_of(list, pair);
-    if at < list.len() {
-        return list[at] == pair;
+    let place = place_of(file, pair);
+    if place < request::count(file) {
+        let here = request::nth(file, place);
+        if here == pair {
+            return TargetValue::One;
+        }
+        if here / 65536 == pair / 65536 {
+            return TargetValue::Zero;
+        }
     }
-    false
+    if 0 < place {
+        let before = request::nth(file, place - 1);
+        if before / 65536 == pair / 65536 {
+            return TargetValue::Zero;
+        }
+    }
+    TargetValue::Undefined
 }
 
-// Whether a pair of that name is in the list.
-pub fn has_name(list: &[u32], name: u32) -> bool
-    requires { ⌜ (name < 65536) × Ordered (now list) ⌝ }
-    ensures { λ r. ⌜ r ≡ has (map unpacked (now (list .entry))) name ⌝ }
+// Whether the request holds the pair.
+pub fn holds(file: &[u8], pair: u32) -> bool
+    requires { ⌜ OrderedFile (now file) ⌝ }
+    ensures { λ r. ⌜ r ≡ R.holds (map unpacked (numbersOf (now (file .entry)))) (unpacked pair) ⌝ }
 {
-    let at = place_of(list, name * 65536);
-    if at < list.len() {
-        return list[at] / 65536 == name;
+    match atom(file, pair) {
+        TargetValue::One => true,
+        TargetValue::Zero => false,
+        TargetValue::Undefined => false,
     }
-    false
 }

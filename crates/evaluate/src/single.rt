@@ -1,13 +1,11 @@
 // What a target and a policy come to for one request.
 ghost use mathlib.Core.Path.{_≡_};
 ghost use mathlib.Core.List.{map};
-ghost use Prim.Native.Nat.{_/_, _%_};
 ghost use Rattle.ptacl.specs.Term.{target, policy};
-ghost use Rattle.ptacl.specs.Meaning.{atomAt};
 ghost use Rattle.ptacl.specs.Pairs.{unpacked};
 ghost use Rattle.ptacl.specs.Cases.{valueOf};
-ghost use Rattle.files.specs.Places.{Has};
-ghost use Rattle.evaluate.specs.Ordered.{Ordered};
+ghost use Rattle.files.specs.Places.{Has, numbersOf};
+ghost use Rattle.evaluate.specs.Ordered.{OrderedFile};
 ghost use Rattle.evaluate.specs.Evaluated.{Evaluated};
 use crate::order;
 use ptacl::DecisionSet;
@@ -23,28 +21,15 @@ pub struct PolicyAt {
     pub next: usize,
 }
 
-fn atom(request: &[u32], pair: u32) -> TargetValue
-    requires { ⌜ Ordered (now request) ⌝ }
-    ensures { λ r. ⌜ valueOf r ≡ atomAt (map unpacked (now (request .entry))) (pair / 65536) (pair % 65536) ⌝ }
-{
-    if order::holds_pair(request, pair) {
-        return TargetValue::One;
-    }
-    if order::has_name(request, pair / 65536) {
-        return TargetValue::Zero;
-    }
-    TargetValue::Undefined
-}
-
 // The target at `at`, of at most `left` nodes: its value, and the place behind it.
-pub fn eval_target(file: &[u8], at: usize, left: usize, request: &[u32]) -> TargetAt
-    requires { ⌜ Has target (now file) at left × Ordered (now request) ⌝ }
-    ensures { λ r. ⌜ Evaluated target (now (file .entry)) at (map unpacked (now (request .entry))) (valueOf (r .value)) (r .next) ⌝ }
+pub fn eval_target(file: &[u8], at: usize, left: usize, request: &[u8]) -> TargetAt
+    requires { ⌜ Has target (now file) at left × OrderedFile (now request) ⌝ }
+    ensures { λ r. ⌜ Evaluated target (now (file .entry)) at (map unpacked (numbersOf (now (request .entry)))) (valueOf (r .value)) (r .next) ⌝ }
 {
     let tag = file[at];
     if tag == 0x10 {
         return TargetAt {
-            value: atom(request, files::bytes::pair(file, at + 1)),
+            value: order::atom(request, files::bytes::pair(file, at + 1)),
             next: at + 5,
         };
     }
@@ -72,9 +57,9 @@ pub fn eval_target(file: &[u8], at: usize, left: usize, request: &[u32]) -> Targ
 }
 
 // The policy at `at`, of at most `left` nodes: its set, and the place behind it.
-pub fn eval_policy(file: &[u8], at: usize, left: usize, request: &[u32]) -> PolicyAt
-    requires { ⌜ Has policy (now file) at left × Ordered (now request) ⌝ }
-    ensures { λ r. ⌜ Evaluated policy (now (file .entry)) at (map unpacked (now (request .entry))) (r .set .code) (r .next) ⌝ }
+pub fn eval_policy(file: &[u8], at: usize, left: usize, request: &[u8]) -> PolicyAt
+    requires { ⌜ Has policy (now file) at left × OrderedFile (now request) ⌝ }
+    ensures { λ r. ⌜ Evaluated policy (now (file .entry)) at (map unpacked (numbersOf (now (request .entry)))) (r .set .code) (r .next) ⌝ }
 {
     let tag = file[at];
     if tag == 0x20 {

@@ -1,13 +1,12 @@
--- The loop that reads a request's pairs: the first i are in, last is the one before, and the test of the rest gives the whole answer.
+-- The loop over a request's pairs: last is the one before, and the test of the rest gives the whole answer.
 use Prim.Native.Nat.{ℕ, suc, _+_, _*_, _-_, _≤_, _<_}
 use mathlib.Core.Path.{_≡_, refl, sym, ap, _∙_}
-use mathlib.Core.List.{List, [], _∷_, map, map-append}
+use mathlib.Core.List.{List, [], _∷_}
 use native.Mathlib.Decide.{decLt}
-use native.Mathlib.Numerals.{add-one}
 use native.Mathlib.Omega.{arith}
 use lib.Dec.{ltb}
-use lib.ListN.{length, take, drop, set, length-set, length-drop}
-use lib.Seq.{take-suc, take-suc-set, take-all, drop-cons}
+use lib.ListN.{length, drop, length-drop}
+use lib.Seq.{drop-cons}
 use borrow.Author.Tests.{lt-ltb, le-ltb}
 use Rattle.ptacl.specs.Request.{Pair, Request, below}
 use Rattle.ptacl.specs.Pairs.{packed}
@@ -25,15 +24,13 @@ nth s j = pairAt s (3 + 4 * j)
 abbrev from : List ℕ → ℕ → ℕ → Read Request
 from s n j = inOrder (pairsAt n s 3) (3 + 4 * j) (drop j (pairsAt n s 3))
 
-pub record Reading (s : List ℕ) (n : ℕ) (pairs : List ℕ) (last i : ℕ) : Type 0 where
+pub record Reading (s : List ℕ) (n last i : ℕ) : Type 0 where
   pub most : i ≤ n
-  pub size : length pairs ≡ 256
-  pub part : take i pairs ≡ map packed (take i (pairsAt n s 3))
   pub before : 0 < i → last ≡ packed (nth s (i - 1))
   pub order : from s n (i - 1) ≡ from s n 0
 
-pub reading-start : (s : List ℕ) (n : ℕ) (pairs : List ℕ) (last : ℕ) → length pairs ≡ 256 → Reading s n pairs last 0
-reading-start s n pairs last e = record { most = omega arith; size = e; part = refl; before = λ h. absurd (omega arith); order = refl }
+pub reading-start : (s : List ℕ) (n last : ℕ) → Reading s n last 0
+reading-start s n last = record { most = omega arith; before = λ h. absurd (omega arith); order = refl }
 
 at-most-one : (q : Request) (at : ℕ) (xs : List Pair) → length xs ≤ 1 → inOrder q at xs ≡ accepted q
 at-most-one q at [] h = refl
@@ -43,8 +40,8 @@ at-most-one q at (x ∷ y ∷ xs) h = absurd (omega arith)
 next : (s : List ℕ) (n j : ℕ) → j < n → drop j (pairsAt n s 3) ≡ nth s j ∷ drop (suc j) (pairsAt n s 3)
 next s n j h = rw (drop-cons (pairsAt n s 3) j (0, 0) (omega (arith, pairs-length n s 3)), pairs-at n s 3 j h)
 
-module _ {s : List ℕ} {n : ℕ} {pairs : List ℕ} {last i : ℕ} (r : Reading s n pairs last i) where
-  module _ {x : ℕ} (b : Bytes s) (few : n ≤ 256) (lt : i < n) (e : x ≡ packed (nth s i)) where
+module _ {s : List ℕ} {n last i : ℕ} (r : Reading s n last i) where
+  module _ {x : ℕ} (b : Bytes s) (lt : i < n) (e : x ≡ packed (nth s i)) where
     pair-test : 0 < i → from s n 0 ≡ inOrder (pairsAt n s 3) (3 + 4 * (i - 1)) (nth s (i - 1) ∷ nth s i ∷ drop (suc i) (pairsAt n s 3))
     pair-test h =
         let k : suc (i - 1) ≡ i = omega arith in
@@ -57,15 +54,9 @@ module _ {s : List ℕ} {n : ℕ} {pairs : List ℕ} {last i : ℕ} (r : Reading
     pub reading-fault : 0 < i → x ≤ last → from s n 0 ≡ refused 26 (3 + 4 * i)
     reading-fault h l = pair-test h ∙ (rw (pair-below h, le-ltb last x l) (ap (refused 26) (omega arith)))
 
-    pub reading-more : (0 < i → last < x) → Reading s n (set pairs i x) x (i + 1)
+    pub reading-more : (0 < i → last < x) → Reading s n x (i + 1)
     reading-more l = record {
       most = omega arith;
-      size = length-set pairs i x ∙ r .size;
-      part =
-          let z = r .size in
-          let p = pairs-length n s 3 in
-          rw (add-one i, take-suc-set pairs i x (omega arith), take-suc (pairsAt n s 3) i (0, 0) (omega arith))
-          (rw (map-append, r .part, e, pairs-at n s 3 i lt));
       before = λ h. rw back e;
       order = rw back (elim (decLt 0 i) [ yes h ↦ on h | no m ↦ let z : i ≡ 0 = omega arith in rw z ]);
     }
@@ -78,11 +69,5 @@ module _ {s : List ℕ} {n : ℕ} {pairs : List ℕ} {last i : ℕ} (r : Reading
             let k : 3 + 4 * (i - 1) + 4 ≡ 3 + 4 * i = omega arith in
             sym (pair-test h ∙ (rw (pair-below h, lt-ltb last x (l h), k) (ap (inOrder (pairsAt n s 3) (3 + 4 * i)) (sym (next s n i lt)))))
 
-  module _ (end : n ≤ i) where
-    pub reading-end : from s n 0 ≡ accepted (pairsAt n s 3)
-    reading-end = sym (r .order) ∙ at-most-one _ _ (drop (i - 1) (pairsAt n s 3)) (simp length-drop (omega (arith, pairs-length n s 3)))
-
-    pub reading-part : take n pairs ≡ map packed (pairsAt n s 3)
-    reading-part =
-        let e : i ≡ n = omega (arith, r .most) in
-        (rw e at (r .part)) ∙ ap (map packed) (take-all n (pairsAt n s 3) (omega (arith, pairs-length n s 3)))
+  pub reading-end : n ≤ i → from s n 0 ≡ accepted (pairsAt n s 3)
+  reading-end end = sym (r .order) ∙ at-most-one _ _ (drop (i - 1) (pairsAt n s 3)) (simp length-drop (omega (arith, pairs-length n s 3)))

@@ -1,13 +1,15 @@
 -- The body of a request file: the pairs that its bytes hold are those that they were written for, and are in range.
-use Prim.Native.Nat.{ℕ, zero, suc, _+_, _*_, _<_, _≤_}
+use Prim.Native.Nat.{ℕ, zero, suc, _+_, _*_, _-_, _/_, _<_, _≤_}
 use mathlib.Core.Path.{_≡_, refl, sym, ap, _∙_}
 use mathlib.Core.List.{List, [], _∷_}
 use native.Mathlib.Omega.{arith}
-use lib.ListN.{length, drop, getD, drop-of-length-le}
+use lib.ListN.{length, drop, getD, drop-of-length-le, length-map, List·getD-map}
 use Rattle.ptacl.specs.Request.{Pair, Request}
+use Rattle.ptacl.specs.Pairs.{packed}
 use Rattle.files.specs.Encoding.{big, InRange, pairBytes, Bytes}
 use Rattle.files.specs.Refusal.{dec16}
 use Rattle.files.specs.ReadRequest.{pairsAt}
+use Rattle.files.specs.Places.{numbersOf}
 use Rattle.files.proofs.BigEndian.{dec16-big, drop-big, dec16-range, big-dec16}
 
 abbrev pub pairAt : List ℕ → ℕ → Pair
@@ -42,3 +44,17 @@ bytes-pairs (x ∷ q) s at e =
     let f : drop (at + 2) s ≡ big (x .1) (pairBytes q) = drop-big s at (x .0) _ e in
     let k : at + 2 + 2 ≡ at + 4 = omega arith in
     rw (dec16-big s at (x .0) _ e, dec16-big s (at + 2) (x .1) _ f, bytes-pairs q s (at + 4) (rw k at (drop-big s (at + 2) (x .1) _ f)))
+
+-- the pairs as numbers
+pub numbers-length : (s : List ℕ) → length (numbersOf s) ≡ (length s - 3) / 4
+unfolding numbersOf
+numbers-length s = length-map (pairsAt ((length s - 3) / 4) s 3) packed ∙ pairs-length _ s 3
+
+pub number-at : (s : List ℕ) (i : ℕ) → i < length (numbersOf s) → packed (pairAt s (3 + 4 * i)) ≡ getD (numbersOf s) i 0
+unfolding numbersOf
+number-at s i h =
+    let n = (length s - 3) / 4 in
+    sym (List·getD-map packed (pairsAt n s 3) i (0, 0) ∙ ap packed (pairs-at n s 3 i (omega (arith, numbers-length s))))
+
+pub number-room : (s : List ℕ) (i : ℕ) → i < length (numbersOf s) → 3 + 4 * i + 4 ≤ length s
+number-room s i h = omega (arith, numbers-length s)

@@ -5,14 +5,16 @@ use mathlib.Core.Logic.{_↔_}
 use mathlib.Core.Bool.{true≢false}
 use mathlib.Core.List.{List, map}
 use native.Mathlib.Omega.{arith}
-use lib.ListN.{length, take}
+use lib.ListN.{length}
 use Rattle.ptacl.specs.Request.{Request}
-use Rattle.ptacl.specs.Pairs.{packed}
+use Rattle.ptacl.specs.Pairs.{unpacked}
 use Rattle.files.specs.declared.request.RequestRead.{RequestRead}
 use Rattle.files.specs.Encoding.{framed, pairBytes, requestFile, FitsRequest, IsRequest, Bytes}
 use Rattle.files.specs.Refusal.{Read, accepted, refused}
 use Rattle.files.specs.ReadRequest.{pairsAt, inOrder, readRequest}
-use Rattle.files.specs.Cases.{RequestAs, held, not-held}
+use Rattle.files.specs.Places.{numbersOf}
+use Rattle.files.specs.Cases.{requestRead}
+use Rattle.files.proofs.Numbers.{map-unpacked-packed}
 use Rattle.files.proofs.Framing.{framed-whole, framed-body}
 use Rattle.files.proofs.Memory.{request-length}
 use Rattle.files.proofs.InOrder.{Ordering, ascends, falls, ordering}
@@ -70,26 +72,27 @@ request-refused-range s {n} {p} e = at (outcome s)
     at (bad m q l h k r) = let a : m ≡ n = cc in let b : q ≡ p = cc in (omega arith, omega arith, omega arith)
     at (good w m few l a r) = clash e r
 
--- number 0: the pairs at the front of the array are those of the request that the file holds
-pub record Held (s : List ℕ) (r : RequestRead) : Type 0 where
-  pub request : Request
-  pub read : readRequest s ≡ accepted request
-  pub few : r .count ≤ 256
-  pub pairs : take (r .count) (r .pairs) ≡ map packed request
-  pub fits : FitsRequest request
+-- what the code's answer for a file tells
+pub request-accepted : (s : List ℕ) → requestRead (readRequest s) ≡ RequestRead.Accepted → (q : Request) × (readRequest s ≡ accepted q)
+request-accepted s e = go (readRequest s) e
+  where
+    go : (x : Read Request) → requestRead x ≡ RequestRead.Accepted → (q : Request) × (x ≡ accepted q)
+    go (accepted q) e = (q, refl)
+    go (refused m p) e = let z : _≡_ {A = ℕ} 0 1 = cc in absurd (omega arith)
 
-module _ (s : List ℕ) (r : RequestRead) (h : RequestAs r (readRequest s)) where
-  pub request-held : Bytes s → r .number ≡ 0 → Held s r
-  request-held b z = at (readRequest s) refl h
-    where
-      at : (x : Read Request) → readRequest s ≡ x → RequestAs r x → Held s r
-      at x e (held {q} n few p) = record { request = q; read = e; few = few; pairs = p; fits = request-exact s b q .0 e .fits }
-      at x e (not-held m n p) = absurd (omega arith)
+pub request-refused : (s : List ℕ) {n p : ℕ} → requestRead (readRequest s) ≡ RequestRead.Refused n p → readRequest s ≡ refused n p
+request-refused s {n} {p} e = go (readRequest s) e
+  where
+    go : (x : Read Request) → requestRead x ≡ RequestRead.Refused n p → x ≡ refused n p
+    go (accepted q) e = let z : _≡_ {A = ℕ} 0 1 = cc in absurd (omega arith)
+    go (refused m q) e = cc
 
-  -- else the file is refused
-  pub request-not-held : (r .number ≡ 0 → ⊥) → readRequest s ≡ refused (r .number) (r .place)
-  request-not-held z = at (readRequest s) refl h
-    where
-      at : (x : Read Request) → readRequest s ≡ x → RequestAs r x → readRequest s ≡ refused (r .number) (r .place)
-      at x e (held n few p) = absurd (z n)
-      at x e (not-held m n p) = rw (n, p) e
+-- the numbers of a request's file are those of its pairs
+pub numbers-request : {s : List ℕ} {q : Request} → IsRequest s q → map unpacked (numbersOf s) ≡ q
+unfolding numbersOf
+numbers-request {s} {q} i =
+    let l = request-length q in
+    let f = ap length (i .file) in
+    let n : (length s - 3) / 4 ≡ length q = omega arith in
+    let e : pairsAt ((length s - 3) / 4) s 3 ≡ q = (rw (n, i .file) (file-pairs q)) in
+    rw e (map-unpacked-packed q (i .fits .range))

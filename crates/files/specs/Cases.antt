@@ -1,10 +1,5 @@
 -- The enums of the code, by cases: what of the definitions each stands for.
-use Prim.Native.Nat.{ℕ, _<_, _≤_}
-use mathlib.Core.Path.{_≡_}
-use mathlib.Core.List.{map}
-use lib.ListN.{take}
 use Rattle.ptacl.specs.Request.{Request}
-use Rattle.ptacl.specs.Pairs.{packed}
 use Rattle.ptacl.specs.Term.{Sort, target, policy, Policy, Node, anAtom, aDeny, anAllow, aTargeted, aNot, aDefault, anAnd}
 use Rattle.files.specs.Refusal.{Read, accepted, refused}
 use Rattle.files.specs.ReadPolicy.{Byte, tag, unknown, Head, node, stop, Scan, done, fault}
@@ -51,7 +46,6 @@ abbrev pub frameOf : Read (Unit {0}) → Frame
 frameOf (accepted u) = Frame.Whole
 frameOf (refused number place) = Frame.Refused number place
 
--- number 0 and the pairs as numbers at the front of an array, or a refusal
-pub data RequestAs (r : RequestRead) : Read Request → Type 0 where
-  held : {q : Request} → r .number ≡ 0 → r .count ≤ 256 → take (r .count) (r .pairs) ≡ map packed q → RequestAs r (accepted q)
-  not-held : {n p : ℕ} → 0 < n → r .number ≡ n → r .place ≡ p → RequestAs r (refused n p)
+abbrev pub requestRead : Read Request → RequestRead
+requestRead (accepted q) = RequestRead.Accepted
+requestRead (refused number place) = RequestRead.Refused number place

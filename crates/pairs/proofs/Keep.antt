@@ -1,4 +1,4 @@
--- The normal form: the search for an unnamed value, the test of a pair, and the loop that keeps the pairs that pass it.
+-- The normal form: the search for a named pair and for an unnamed value, the test of a pair, and the loop that keeps the pairs that pass it.
 use Prim.Native.Nat.{ℕ, _+_, _/_, _≤_, _<_}
 use mathlib.Core.Path.{_≡_, refl, sym, ap, subst, _∙_}
 use mathlib.Core.Bool.{Bool, true, false, not, cond, _&&_, _||_, and-false, or-false}
@@ -9,10 +9,11 @@ use lib.Dec.{eqb}
 use lib.ListN.{length, take, drop, set, getD, length-set, drop-of-length-le}
 use lib.Seq.{drop-cons, take-suc-set, append-snoc, length-take-le, getD-take}
 use borrow.Author.Tests.{eq-eqb, ne-eqb}
-use Rattle.ptacl.specs.Request.{Pair, Request, holds}
-use Rattle.ptacl.specs.Pairs.{named, fresh, namedOrFresh, IsPairs, unpacked, unnamed, normal, IsNormal}
+use Rattle.ptacl.specs.Request.{Pair, Request, samePair, holds}
+use Rattle.ptacl.specs.Pairs.{named, fresh, namedOrFresh, IsPairs, packed, unpacked, unnamed, normal, IsNormal}
 use Rattle.ptacl.specs.Exposure.{subset}
 use Rattle.ptacl.proofs.Bools.{clash, refute}
+use Rattle.ptacl.proofs.Requests.{pair-equal}
 use Rattle.ptacl.proofs.Fresh.{fresh-unnamed}
 use Rattle.ptacl.proofs.Bits.{put-odd, put-half}
 use Rattle.ptacl.proofs.Subset.{subset-map, mask, normal-subset}
@@ -20,6 +21,26 @@ use Rattle.evaluate.proofs.Ordered.{entry-held}
 
 next : (l : List ℕ) (i : ℕ) → i < length l → drop i l ≡ getD l i 0 ∷ drop (i + 1) l
 next l i h = rw add-one (drop-cons l i 0 h)
+
+-- the pair was found, or, if it is in the list at all, is still ahead
+pub record Sought (l : List ℕ) (x : ℕ) (found : Bool) (i : ℕ) : Type 0 where
+  pub work : (found || holds (map unpacked (drop i l)) (unpacked x)) ≡ holds (map unpacked l) (unpacked x)
+
+pub sought-start : (l : List ℕ) (x : ℕ) → Sought l x false 0
+sought-start l x = record { work = refl }
+
+module _ {l : List ℕ} {x i : ℕ} {found : Bool} (s : Sought l x found i) where
+  pub sought-hit : i < length l → getD l i 0 ≡ x → Sought l x true (i + 1)
+  sought-hit h e = record { work = sym (subst (λ z. holds (map unpacked l) (unpacked z) ≡ true) e (entry-held l i h)) }
+
+  pub sought-other : i < length l → (getD l i 0 ≡ x → ⊥) → Sought l x found (i + 1)
+  sought-other h n = record { work = rw (next l i h, other) at (s .work) }
+    where
+      other : samePair (unpacked (getD l i 0)) (unpacked x) ≡ false
+      other = refute (λ k. let e = ap packed (pair-equal (unpacked (getD l i 0)) (unpacked x) k) in n (omega arith))
+
+  pub sought-end : length l ≤ i → found ≡ holds (map unpacked l) (unpacked x)
+  sought-end h = sym (or-false found) ∙ (rw (drop-of-length-le l h) at (s .work))
 
 -- an unnamed value of the name, if there is one, is still ahead
 pub record Ahead (ats : List Pair) (q : List ℕ) (n i : ℕ) : Type 0 where
@@ -34,14 +55,15 @@ module _ (ats : List Pair) (q : List ℕ) (n i : ℕ) (a : Ahead ats q n i) wher
       ≡ unnamed ats (map unpacked q) n
   split h = sym (ap (λ l. unnamed ats (map unpacked l) n) (next q i h)) ∙ a .work
 
-  pub ahead-hit : i < length q → getD q i 0 / 65536 ≡ n → named ats (unpacked (getD q i 0)) ≡ false → true ≡ unnamed ats (map unpacked q) n
-  ahead-hit h e f = rw (eq-eqb _ _ e, f) at (split h)
+  module _ {x : ℕ} (h : i < length q) (g : x ≡ getD q i 0) where
+    pub ahead-hit : x / 65536 ≡ n → named ats (unpacked x) ≡ false → true ≡ unnamed ats (map unpacked q) n
+    ahead-hit e f = rw (← g, eq-eqb _ _ e, f) at (split h)
 
-  pub ahead-named : i < length q → named ats (unpacked (getD q i 0)) ≡ true → Ahead ats q n (i + 1)
-  ahead-named h f = record { work = rw (f, and-false (eqb (getD q i 0 / 65536) n)) at (split h) }
+    pub ahead-named : named ats (unpacked x) ≡ true → Ahead ats q n (i + 1)
+    ahead-named f = record { work = rw (← g, f, and-false (eqb (x / 65536) n)) at (split h) }
 
-  pub ahead-other : i < length q → (getD q i 0 / 65536 ≡ n → ⊥) → Ahead ats q n (i + 1)
-  ahead-other h e = record { work = rw (ne-eqb _ _ e) at (split h) }
+    pub ahead-other : (x / 65536 ≡ n → ⊥) → Ahead ats q n (i + 1)
+    ahead-other e = record { work = rw (← g, ne-eqb _ _ e) at (split h) }
 
   pub ahead-end : length q ≤ i → false ≡ unnamed ats (map unpacked q) n
   ahead-end h = rw (drop-of-length-le q h) at (a .work)

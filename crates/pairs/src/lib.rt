@@ -4,10 +4,10 @@ ghost use mathlib.Core.Bool.{true};
 ghost use mathlib.Core.List.{map};
 ghost use Prim.Native.Nat.{_+_, _/_, _≤_, _<_};
 ghost use lib.ListN.{length, drop};
-ghost use Rattle.ptacl.specs.Pairs.{unpacked, namedOrFresh, unnamed, normal};
+ghost use Rattle.ptacl.specs.Pairs.{unpacked, named, namedOrFresh, unnamed, normal};
 ghost use Rattle.files.specs.Memory.{over};
-ghost use Rattle.files.specs.Places.{Encoded};
-ghost use Rattle.evaluate.specs.Ordered.{Ordered};
+ghost use Rattle.files.specs.Places.{Encoded, numbersOf};
+ghost use Rattle.evaluate.specs.Ordered.{Ordered, OrderedFile};
 ghost use Rattle.pairs.specs.Lists.{numbers, carry, NamedOf, FreshOf, AllOf, NormalOf, PairsOf, NormalFormOf};
 use evaluate::order;
 
@@ -65,6 +65,21 @@ fn named_of(term: &[u8]) -> Pairs
     named
 }
 
+// Whether the pair is one of these. All are compared, several at a time: for so few this takes no longer than halving.
+fn is_named(list: &[u32], pair: u32) -> bool
+    ensures { λ r. ⌜ r ≡ named (map unpacked (now (list .entry))) (unpacked pair) ⌝ }
+{
+    let mut found = false;
+    let mut i = 0;
+    while i < list.len() {
+        if list[i] == pair {
+            found = true;
+        }
+        i += 1;
+    }
+    found
+}
+
 // The fresh pair of a name: its values are tried from 0 on, each against the named pairs.
 fn fresh_of(named: &[u32], name: u32) -> u32
     requires { ⌜ (name < 65536) × (length (now named) ≤ 127) × Ordered (now named) ⌝ }
@@ -72,7 +87,7 @@ fn fresh_of(named: &[u32], name: u32) -> u32
 {
     let first = name * 65536;
     let mut value = 0;
-    while order::holds_pair(named, first + value) {
+    while is_named(named, first + value) {
         value += 1;
     }
     first + value
@@ -103,15 +118,16 @@ fn all_of(named: Pairs) -> Pairs
 }
 
 // Whether the request holds a value of the name that is not named.
-fn holds_unnamed(named: &[u32], request: &[u32], name: u32) -> bool
-    requires { ⌜ Ordered (now named) ⌝ }
-    ensures { λ r. ⌜ r ≡ unnamed (map unpacked (now (named .entry))) (map unpacked (now (request .entry))) name ⌝ }
+fn holds_unnamed(named: &[u32], request: &[u8], name: u32) -> bool
+    requires { ⌜ OrderedFile (now request) ⌝ }
+    ensures { λ r. ⌜ r ≡ unnamed (map unpacked (now (named .entry))) (map unpacked (numbersOf (now (request .entry)))) name ⌝ }
 {
+    let count = files::request::count(request);
     let mut i = 0;
-    while i < request.len() {
-        let pair = request[i];
+    while i < count {
+        let pair = files::request::nth(request, i);
         if pair / 65536 == name {
-            if !order::holds_pair(named, pair) {
+            if !is_named(named, pair) {
                 return true;
             }
         }
@@ -121,20 +137,20 @@ fn holds_unnamed(named: &[u32], request: &[u32], name: u32) -> bool
 }
 
 // Whether one of the policy's pairs is in the normal form.
-fn is_kept(named: &[u32], request: &[u32], pair: u32) -> bool
-    requires { ⌜ Ordered (now named) × Ordered (now request) × (namedOrFresh (map unpacked (now named)) (unpacked pair) ≡ true) ⌝ }
-    ensures { λ r. ⌜ r ≡ normal (map unpacked (now (named .entry))) (map unpacked (now (request .entry))) (unpacked pair) ⌝ }
+fn is_kept(named: &[u32], request: &[u8], pair: u32) -> bool
+    requires { ⌜ OrderedFile (now request) × (namedOrFresh (map unpacked (now named)) (unpacked pair) ≡ true) ⌝ }
+    ensures { λ r. ⌜ r ≡ normal (map unpacked (now (named .entry))) (map unpacked (numbersOf (now (request .entry)))) (unpacked pair) ⌝ }
 {
-    if order::holds_pair(named, pair) {
-        return order::holds_pair(request, pair);
+    if is_named(named, pair) {
+        return order::holds(request, pair);
     }
     holds_unnamed(named, request, pair / 65536)
 }
 
 // The normal form of a request.
-fn normal_of(named: Pairs, request: &[u32]) -> Pairs
-    requires { ⌜ (named .count ≤ 127) × Ordered (numbers named) × Ordered (now request) ⌝ }
-    ensures { λ r. ⌜ NormalOf named (map unpacked (now (request .entry))) r ⌝ }
+fn normal_of(named: Pairs, request: &[u8]) -> Pairs
+    requires { ⌜ (named .count ≤ 127) × Ordered (numbers named) × OrderedFile (now request) ⌝ }
+    ensures { λ r. ⌜ NormalOf named (map unpacked (numbersOf (now (request .entry)))) r ⌝ }
 {
     let from = named.pairs;
     let n = named.count;
@@ -167,9 +183,9 @@ pub fn pairs_of(file: &[u8]) -> Pairs
 }
 
 // The normal form of a request for a policy that was read.
-pub fn normal_form_of(file: &[u8], request: &[u32]) -> Pairs
-    requires { ⌜ (3 ≤ length (now file)) × Encoded (drop 3 (now file)) × Ordered (now request) ⌝ }
-    ensures { λ r. ⌜ NormalFormOf (drop 3 (now (file .entry))) (map unpacked (now (request .entry))) r ⌝ }
+pub fn normal_form_of(file: &[u8], request: &[u8]) -> Pairs
+    requires { ⌜ (3 ≤ length (now file)) × Encoded (drop 3 (now file)) × OrderedFile (now request) ⌝ }
+    ensures { λ r. ⌜ NormalFormOf (drop 3 (now (file .entry))) (map unpacked (numbersOf (now (request .entry)))) r ⌝ }
 {
     normal_of(named_of(&file[3..]), request)
 }

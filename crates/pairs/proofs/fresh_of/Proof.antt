@@ -22,11 +22,11 @@ mul-first c = search needs
 loop-holds : tie.Need-loop-holds Inv-loop μ-loop
 loop-holds c = tried-start _ _
 
-add-holds-pair : tie.Need-add-holds-pair Inv-loop μ-loop
-add-holds-pair c = omega (arith, few c, c .before .before .pre)
+add-is-named : tie.Need-add-is-named Inv-loop μ-loop
+add-is-named c = omega (arith, few c, c .before .before .pre)
 
-holds-pair-requires : tie.Need-holds-pair-requires Inv-loop μ-loop
-holds-pair-requires c κs = c .before .before .pre .2
+is-named-requires : tie.Need-is-named-requires Inv-loop μ-loop
+is-named-requires c κs = search needs
 
 add-value : tie.Need-add-value Inv-loop μ-loop
 add-value c = omega (arith, few (c .before .before))
@@ -37,7 +37,7 @@ loop-less c = omega (arith, few (c .before .before))
 loop-again : tie.Need-loop-again Inv-loop μ-loop
 loop-again c =
     tried-next _ _ _ (c .before .before .before .before .pre .1) (c .before .before .loop .inv)
-    (sym (c .before .holds-pair .ensures) ∙ c .if1 .taken)
+    (sym (c .before .is-named .ensures) ∙ c .if1 .taken)
 
 add-result : tie.Need-add-result Inv-loop μ-loop
 add-result c = omega (arith, few (c .before .before), c .before .before .before .before .pre)
@@ -45,7 +45,7 @@ add-result c = omega (arith, few (c .before .before), c .before .before .before 
 returns : tie.Need-returns Inv-loop μ-loop
 returns c =
     tried-end _ _ _ (c .before .before .before .before .pre .1) (c .before .before .loop .inv)
-    (sym (c .before .holds-pair .ensures) ∙ c .if1 .left)
+    (sym (c .before .is-named .ensures) ∙ c .if1 .left)
 
 pub fresh-of-spec : {M : Type 1} → statement M
 fresh-of-spec =
@@ -55,8 +55,8 @@ fresh-of-spec =
     μ-loop
     mul-first
     loop-holds
-    add-holds-pair
-    holds-pair-requires
+    add-is-named
+    is-named-requires
     add-value
     loop-less
     loop-again

@@ -8,6 +8,7 @@ use borrow.Author.Needs.{needs}
 use lib.ListN.{length, take}
 use lib.Seq.{length-take-le}
 use Rattle.ptacl.specs.Pairs.{unpacked, normal}
+use Rattle.files.specs.Places.{numbersOf}
 use Rattle.pairs.specs.Lists.{numbers, All}
 use Rattle.pairs.proofs.Same.{normal-same}
 use Rattle.pairs.proofs.Keep.{listed, Kept, kept-start, kept-in, kept-out, kept-end}
@@ -16,7 +17,7 @@ use Rattle.pairs.proofs.normal_of.Tie as tie
 
 abbrev Inv-loop : tie.InvT-loop
 Inv-loop request from n pairs count kept₀ k₀ i₀ kept k i =
-    Kept (normal (map unpacked (take n from)) (map unpacked request)) pairs count kept i k
+    Kept (normal (map unpacked (take n from)) (map unpacked (numbersOf request))) pairs count kept i k
 
 abbrev μ-loop : tie.MeasureT-loop
 μ-loop request from n pairs count kept₀ k₀ i₀ kept k i = count - i
@@ -61,7 +62,7 @@ is-kept-requires : tie.Need-is-kept-requires Inv-loop μ-loop
 is-kept-requires c κs =
     let s = c .before .before .before .before .before .before .before in
     let a = c .before .before .before .before in
-    (s .pre .1, s .pre .2, listed _ _ _ _ (all-fits a) (search needs) (all a .pairs))
+    (s .pre .2, listed _ _ _ _ (all-fits a) (search needs) (all a .pairs))
 
 mul-kept : tie.Need-mul-kept Inv-loop μ-loop
 mul-kept c = omega (arith, all (c .before .before .before .before .before .before) .most)

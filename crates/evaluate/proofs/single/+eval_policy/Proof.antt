@@ -8,7 +8,7 @@ use borrow.Fn.PlainCycle.{Measures, is, falls, and}
 use Rattle.ptacl.specs.Term.{policy, anAnd, tagOf}
 use Rattle.files.specs.Places.{Has}
 use Rattle.files.proofs.View.{Inner, has-room, has-left, has-target, has-body, has-inner, has-and-tag, has-first, has-second}
-use Rattle.evaluate.specs.Ordered.{Ordered}
+use Rattle.evaluate.specs.Ordered.{OrderedFile}
 use Rattle.evaluate.proofs.Nodes.{for-part, is-deny, is-allow, is-targeted, is-not, is-default, is-and}
 use Rattle.evaluate.proofs.single.eval_policy.Reads as eval-policy
 use Rattle.evaluate.proofs.single.eval_policy.Kinds as kinds
@@ -51,7 +51,7 @@ module _ (t : ℕ) where
   -- where the byte is read: what the function was given
   given : (c : lts.After-shared-slice-known3 (cs t) (at t) eval-policy.Post) →
       let a = c .before .before .before .args in
-      (a .left ≡ t) × (Has policy (a .file .now) (a .at) (a .left) × Ordered (a .request .now))
+      (a .left ≡ t) × (Has policy (a .file .now) (a .at) (a .left) × OrderedFile (a .request .now))
   given c = c .before .before .before .pre
 
   -- where it is not deny's, allow's or a targeted's, a policy is next

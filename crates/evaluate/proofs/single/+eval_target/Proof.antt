@@ -9,12 +9,12 @@ use Rattle.ptacl.specs.Term.{target, anAnd, tagOf}
 use Rattle.files.specs.Places.{Has}
 use Rattle.files.proofs.Framing.{lent-bytes}
 use Rattle.files.proofs.View.{Inner, has-room, has-left, has-atom, has-inner, has-and-tag, has-first, has-second}
-use Rattle.evaluate.specs.Ordered.{Ordered}
+use Rattle.evaluate.specs.Ordered.{OrderedFile}
 use Rattle.evaluate.proofs.Nodes.{for-part, is-atom, is-not, is-default, is-and}
 use Rattle.evaluate.proofs.single.eval_target.Reads as eval-target
 use Rattle.evaluate.proofs.single.eval_target.Kinds as kinds
 use Rattle.evaluate.proofs.single.+eval_target.Lts-eval_target as lts
-use Rattle.evaluate.proofs.single.atom.Reads as atom-reads
+use Rattle.evaluate.proofs.order.atom.Reads as atom-reads
 use Rattle.files.proofs.bytes.pair.Reads as pair-reads
 use Rattle.ptacl.proofs.TargetValue.and.Reads as and-reads
 use Rattle.ptacl.proofs.TargetValue.not.Reads as not-reads
@@ -52,7 +52,7 @@ module _ (t : ℕ) where
   -- where the byte is read: what the function was given
   given : (c : lts.After-shared-slice-known3 (cs t) (at t) eval-target.Post) →
       let a = c .before .before .before .args in
-      (a .left ≡ t) × (Has target (a .file .now) (a .at) (a .left) × Ordered (a .request .now))
+      (a .left ≡ t) × (Has target (a .file .now) (a .at) (a .left) × OrderedFile (a .request .now))
   given c = c .before .before .before .pre
 
   -- where it is not that of an atom, a target is next
