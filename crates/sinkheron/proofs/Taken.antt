@@ -1,27 +1,26 @@
 -- What an operation knows of its files once they were accepted: the policy and the request that they hold.
 use Prim.Native.Nat.{ℕ, _≤_}
-use mathlib.Core.Path.{_≡_, ap, _∙_}
+use mathlib.Core.Path.{_≡_, ap}
 use mathlib.Core.List.{List, map}
 use native.Mathlib.Omega.{arith}
 use mir.Syntax.{w8}
 use mir.Val.{Fits}
-use lib.ListN.{length, getD, take, drop}
+use lib.ListN.{length, getD, drop}
 use Rattle.ptacl.specs.Request.{Request}
 use Rattle.ptacl.specs.Term.{policy, Policy}
-use Rattle.ptacl.specs.Pairs.{packed, unpacked}
-use Rattle.files.specs.Encoding.{enc, framed, policyFile, Bytes, IsPolicy, IsRequest}
+use Rattle.ptacl.specs.Pairs.{unpacked}
+use Rattle.files.specs.Encoding.{enc, framed, policyFile, requestFile, IsPolicy, IsRequest}
 use Rattle.files.specs.ReadPolicy.{readPolicy}
 use Rattle.files.specs.ReadRequest.{readRequest}
-use Rattle.files.specs.Places.{At, Has, Encoded}
-use Rattle.files.specs.Cases.{policyRead, RequestAs}
+use Rattle.files.specs.Places.{At, Has, Encoded, numbersOf}
+use Rattle.files.specs.Cases.{policyRead, requestRead}
 use Rattle.files.specs.declared.policy.PolicyRead.{PolicyRead}
 use Rattle.files.specs.declared.request.RequestRead.{RequestRead}
 use Rattle.files.proofs.Framing.{lent-bytes}
 use Rattle.files.proofs.PolicyExact.{policy-exact}
-use Rattle.files.proofs.RequestExact.{request-exact, request-held}
-use Rattle.files.proofs.Numbers.{map-unpacked-packed}
+use Rattle.files.proofs.RequestExact.{request-exact, request-accepted, numbers-request}
 use Rattle.files.proofs.View.{policy-accepted, policy-at, policy-has}
-use Rattle.evaluate.specs.Ordered.{Ordered}
+use Rattle.evaluate.specs.Ordered.{OrderedFile}
 
 -- ---- the policy
 
@@ -53,21 +52,22 @@ encoded t = record { term = t .term; bytes = t .body; few = t .file .fits .few }
 
 -- ---- the request
 
-pub record Sent (s : List ℕ) (r : RequestRead) : Type 0 where
+pub record Sent (s : List ℕ) : Type 0 where
   pub request : Request
   pub file : IsRequest s request
-  pub few : r .count ≤ 256
-  pub pairs : map unpacked (take (r .count) (r .pairs)) ≡ request
+  pub pairs : map unpacked (numbersOf s) ≡ request
+  pub ordered : OrderedFile s
 
-pub request-sent : {s : List ℕ} {r : RequestRead} → ((i : ℕ) → Fits w8 (getD s i 0)) → RequestAs r (readRequest s) → r .number ≡ 0 → Sent s r
-request-sent {s} {r} b h z =
-    let k = request-held s r h (lent-bytes b) z in
+pub request-sent : {s : List ℕ} → ((i : ℕ) → Fits w8 (getD s i 0)) → requestRead (readRequest s) ≡ RequestRead.Accepted → Sent s
+unfolding requestFile framed
+request-sent {s} b e =
+    let a = request-accepted s e in
+    let i = request-exact s (lent-bytes b) (a .0) .0 (a .1) in
+    let n = numbers-request i in
     record {
-      request = k .request;
-      file = request-exact s (lent-bytes b) (k .request) .0 (k .read);
-      few = k .few;
-      pairs = ap (map unpacked) (k .pairs) ∙ map-unpacked-packed (k .request) (k .fits .range);
+      request = a .0;
+      file = i;
+      pairs = n;
+      ordered = record { long = omega (arith, ap length (i .file)); ordered = record { rises = rw n (i .fits .ordered) } };
     }
 
-pub ordered : {s : List ℕ} {r : RequestRead} → Sent s r → Ordered (take (r .count) (r .pairs))
-ordered q = record { rises = rw (q .pairs) (q .file .fits .ordered) }

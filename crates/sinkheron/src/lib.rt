@@ -7,6 +7,7 @@ ghost use Rattle.sinkheron.specs.NormalForm as N;
 ghost use Rattle.sinkheron.specs.Certify as C;
 ghost use Rattle.sinkheron.specs.Search as S;
 use files::policy::PolicyRead;
+use files::request::RequestRead;
 use ptacl::DecisionSet;
 use search::Verdict;
 
@@ -55,17 +56,10 @@ pub fn decide(policy: &[u8], request: &[u8]) -> Decision
     if let PolicyRead::Refused { number, place } = files::policy::read_policy(policy) {
         return Decision::Refused { number, place };
     }
-    let read = files::request::read_request(request);
-    let number = read.number;
-    if number != 0 {
-        return Decision::Refused {
-            number,
-            place: read.place,
-        };
+    if let RequestRead::Refused { number, place } = files::request::read_request(request) {
+        return Decision::Refused { number, place };
     }
-    let pairs = read.pairs;
-    let count = read.count;
-    let answer = evaluate::single::eval_policy(policy, 3, 255, &pairs[..count]);
+    let answer = evaluate::single::eval_policy(policy, 3, 255, request);
     let set = answer.set;
     if set.code == 0 {
         return Decision::Refused {
@@ -103,17 +97,10 @@ pub fn normal_form(policy: &[u8], request: &[u8], space: &mut [u8]) -> Normalise
     if let PolicyRead::Refused { number, place } = files::policy::read_policy(policy) {
         return Normalised::Refused { number, place };
     }
-    let read = files::request::read_request(request);
-    let number = read.number;
-    if number != 0 {
-        return Normalised::Refused {
-            number,
-            place: read.place,
-        };
+    if let RequestRead::Refused { number, place } = files::request::read_request(request) {
+        return Normalised::Refused { number, place };
     }
-    let held = read.pairs;
-    let n = read.count;
-    let normal = pairs::normal_form_of(policy, &held[..n]);
+    let normal = pairs::normal_form_of(policy, request);
     let list = normal.pairs;
     let count = normal.count;
     if space.len() < 3 + 4 * count {

@@ -1,16 +1,12 @@
 -- `decide` meets its promise.
 use borrow.Author.Needs.{needs}
 use mathlib.Core.Path.{_≡_, sym, ap, _∙_}
-use native.Mathlib.Omega.{arith}
-use Prim.Native.Nat.{_≤_}
-use lib.ListN.{length}
-use lib.Seq.{length-take-le}
-use Rattle.sinkheron.specs.Ways.{unread, holding}
-use Rattle.files.proofs.View.{policy-refused}
 use Rattle.ptacl.specs.Values.{code}
 use Rattle.ptacl.specs.Meaning.{eval}
-use Rattle.files.proofs.RequestExact.{request-not-held}
-use Rattle.sinkheron.proofs.Taken.{Taken, policy-taken, Sent, request-sent, ordered}
+use Rattle.files.proofs.View.{policy-refused}
+use Rattle.files.proofs.RequestExact.{request-refused}
+use Rattle.sinkheron.specs.Ways.{unread, holding}
+use Rattle.sinkheron.proofs.Taken.{Taken, policy-taken, Sent, request-sent}
 use Rattle.sinkheron.proofs.Written.{empty-set, some-set}
 use Rattle.sinkheron.proofs.decide.Statement.{statement}
 use Rattle.sinkheron.proofs.decide.Tie as tie
@@ -27,22 +23,15 @@ cs = (read-policy-reads.Asked, read-policy-reads.Learnt, read-request-reads.Aske
 its-policy : (c : lts.After-enum-told cs reads.Pre reads.Post) → Taken (c .before .before .before .before .before .args .policy .now)
 its-policy c = policy-taken (c .before .before .before .before .shared-slice-known .given) (sym (c .before .before .read-policy .ensures) ∙ c .enum-told .given .1)
 
-its-request : (c : lts.Else1 cs reads.Pre reads.Post) →
-    Sent (c .before .before .before .before .before .before .before .args .request .now) (c .before .read-request .result)
-its-request c = request-sent (c .before .before .before .before .before .shared-slice-known2 .given) (c .before .read-request .ensures) (c .if1 .left)
-
-fits : (c : lts.Else1 cs reads.Pre reads.Post) → c .before .read-request .result .count ≤ length (c .before .read-request .result .pairs)
-fits c =
-    let l : length (c .before .read-request .result .pairs) ≡ 256 = search needs in
-    omega (arith, its-request c .few)
+its-request : (c : lts.After-enum-told2 cs reads.Pre reads.Post) → Sent (c .before .before .before .before .before .before .before .before .args .request .now)
+its-request c = request-sent (c .before .before .before .before .before .before .shared-slice-known2 .given) (sym (c .before .before .read-request .ensures) ∙ c .enum-told2 .given .1)
 
 -- the code is that of the set
 its-set : (c : lts.After-eval-policy cs reads.Pre reads.Post) →
-    c .eval-policy .result .set .code
-    ≡ code (eval (its-policy (c .before .before .before .before .before) .term) (its-request (c .before .before .before) .request))
+    c .eval-policy .result .set .code ≡ code (eval (its-policy (c .before .before .before .before) .term) (its-request (c .before) .request))
 its-set c =
-    c .eval-policy .ensures .value _ (its-policy (c .before .before .before .before .before) .here)
-    ∙ ap (λ q. code (eval (its-policy (c .before .before .before .before .before) .term) q)) (its-request (c .before .before .before) .pairs)
+    c .eval-policy .ensures .value _ (its-policy (c .before .before .before .before) .here)
+    ∙ ap (λ q. code (eval (its-policy (c .before .before .before .before) .term) q)) (its-request (c .before) .pairs)
 
 read-policy-requires : tie.Need-read-policy-requires
 read-policy-requires c κs = search needs
@@ -59,27 +48,29 @@ enum-told c = search needs
 read-request-requires : tie.Need-read-request-requires
 read-request-requires c κs = search needs
 
+enum-known-number-2 : tie.Need-enum-known-number-2
+enum-known-number-2 c = search needs
+
 returns-2 : tie.Need-returns-2
-returns-2 c = holding (its-policy (c .before .before) .file) (unread (request-not-held _ _ (c .before .read-request .ensures) (c .if1 .taken)))
+returns-2 c =
+    holding (its-policy (c .before .before .before .before) .file)
+    (unread (request-refused _ (sym (c .before .before .before .read-request .ensures) ∙ c .before .number2 .given .1)))
 
-array-share-prefix-pairs : tie.Need-array-share-prefix-pairs
-array-share-prefix-pairs c = fits (c .before)
-
-slice-aggregate-eval-policy : tie.Need-slice-aggregate-eval-policy
-slice-aggregate-eval-policy c = sym (length-take-le _ _ (fits (c .before .before)))
+enum-told-2 : tie.Need-enum-told-2
+enum-told-2 c = search needs
 
 eval-policy-requires : tie.Need-eval-policy-requires
-eval-policy-requires c κs = (its-policy (c .before .before .before .before) .has, ordered (its-request (c .before .before)))
+eval-policy-requires c κs = (its-policy (c .before .before .before) .has, its-request c .ordered)
 
 returns-3 : tie.Need-returns-3
 returns-3 c =
-    empty-set (its-policy (c .before .before .before .before .before .before .before .before) .file)
-    (its-request (c .before .before .before .before .before .before) .file) (its-set (c .before .before .before)) (c .if2 .taken)
+    empty-set (its-policy (c .before .before .before .before .before .before .before) .file)
+    (its-request (c .before .before .before .before) .file) (its-set (c .before .before .before)) (c .if1 .taken)
 
 returns-4 : tie.Need-returns-4
 returns-4 c =
-    some-set (its-policy (c .before .before .before .before .before .before .before .before) .file)
-    (its-request (c .before .before .before .before .before .before) .file) (its-set (c .before .before .before)) (c .if2 .left)
+    some-set (its-policy (c .before .before .before .before .before .before .before) .file)
+    (its-request (c .before .before .before .before) .file) (its-set (c .before .before .before)) (c .if1 .left)
 
 pub decide-spec : {M : Type 1} → statement M
 decide-spec =
@@ -90,9 +81,9 @@ decide-spec =
     returns
     enum-told
     read-request-requires
+    enum-known-number-2
     returns-2
-    array-share-prefix-pairs
-    slice-aggregate-eval-policy
+    enum-told-2
     eval-policy-requires
     returns-3
     returns-4)

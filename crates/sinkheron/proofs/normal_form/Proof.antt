@@ -4,14 +4,13 @@ use Prim.Native.Nat.{_≤_}
 use mathlib.Core.Path.{_≡_, sym, ap, _∙_}
 use native.Mathlib.Omega.{arith}
 use lib.ListN.{length}
-use lib.Seq.{length-take-le}
 use Rattle.ptacl.specs.Term.{atoms}
 use Rattle.ptacl.specs.Pairs.{IsNormal}
-use Rattle.files.proofs.RequestExact.{request-not-held}
+use Rattle.files.proofs.RequestExact.{request-refused}
 use Rattle.files.proofs.View.{policy-refused}
 use Rattle.pairs.proofs.Callers.{Listed, normal-listed}
 use Rattle.sinkheron.specs.Ways.{unread, holding}
-use Rattle.sinkheron.proofs.Taken.{Taken, policy-taken, encoded, Sent, request-sent, ordered}
+use Rattle.sinkheron.proofs.Taken.{Taken, policy-taken, encoded, Sent, request-sent}
 use Rattle.sinkheron.proofs.Written.{file-too-long, file-written}
 use Rattle.sinkheron.proofs.normal_form.Statement.{statement}
 use Rattle.sinkheron.proofs.normal_form.Tie as tie
@@ -40,25 +39,17 @@ its-policy c =
     policy-taken (c .before .before .before .before .before .shared-slice-known .given)
     (sym (c .before .before .read-policy .ensures) ∙ c .enum-told .given .1)
 
-its-request : (c : lts.Else1 cs reads.Pre reads.Post) →
-    Sent (c .before .before .before .before .before .before .before .before .args .request .now) (c .before .read-request .result)
-its-request c = request-sent (c .before .before .before .before .before .before .shared-slice-known2 .given) (c .before .read-request .ensures) (c .if1 .left)
-
-held-fits : (c : lts.Else1 cs reads.Pre reads.Post) → c .before .read-request .result .count ≤ length (c .before .read-request .result .pairs)
-held-fits c =
-    let l : length (c .before .read-request .result .pairs) ≡ 256 = search needs in
-    omega (arith, its-request c .few)
+its-request : (c : lts.After-enum-told2 cs reads.Pre reads.Post) → Sent (c .before .before .before .before .before .before .before .before .before .args .request .now)
+its-request c = request-sent (c .before .before .before .before .before .before .before .shared-slice-known2 .given) (sym (c .before .before .read-request .ensures) ∙ c .enum-told2 .given .1)
 
 its-form : (c : lts.After-normal-form-of cs reads.Pre reads.Post) →
-    Listed (IsNormal (atoms (its-policy (c .before .before .before .before .before) .term)) (its-request (c .before .before .before) .request)) (c .normal-form-of .result)
+    Listed (IsNormal (atoms (its-policy (c .before .before .before .before) .term)) (its-request (c .before) .request)) (c .normal-form-of .result)
 its-form c =
-    let p = its-policy (c .before .before .before .before .before) in
-    normal-listed (p .term) (p .body) _ (search needs) (rw (its-request (c .before .before .before) .pairs) at (c .normal-form-of .ensures))
+    let p = its-policy (c .before .before .before .before) in
+    normal-listed (p .term) (p .body) _ (search needs) (rw (its-request (c .before) .pairs) at (c .normal-form-of .ensures))
 
 fits : (c : lts.After-normal-form-of cs reads.Pre reads.Post) → c .normal-form-of .result .count ≤ 254
-fits c =
-    let p = its-policy (c .before .before .before .before .before) in
-    c .normal-form-of .ensures .right (p .term) (p .body) .most
+fits c = let p = its-policy (c .before .before .before .before) in c .normal-form-of .ensures .right (p .term) (p .body) .most
 
 read-policy-requires : tie.Need-read-policy-requires
 read-policy-requires c κs = search needs
@@ -75,29 +66,30 @@ enum-told c = search needs
 read-request-requires : tie.Need-read-request-requires
 read-request-requires c κs = search needs
 
+enum-known-number-2 : tie.Need-enum-known-number-2
+enum-known-number-2 c = search needs
+
 returns-2 : tie.Need-returns-2
-returns-2 c = holding (its-policy (c .before .before) .file) (unread (request-not-held _ _ (c .before .read-request .ensures) (c .if1 .taken)))
+returns-2 c =
+    holding (its-policy (c .before .before .before .before) .file)
+    (unread (request-refused _ (sym (c .before .before .before .read-request .ensures) ∙ c .before .number2 .given .1)))
 
-array-share-prefix-held : tie.Need-array-share-prefix-held
-array-share-prefix-held c = held-fits (c .before)
-
-slice-aggregate-normal-form-of : tie.Need-slice-aggregate-normal-form-of
-slice-aggregate-normal-form-of c = sym (length-take-le _ _ (held-fits (c .before .before)))
+enum-told-2 : tie.Need-enum-told-2
+enum-told-2 c = search needs
 
 normal-form-of-requires : tie.Need-normal-form-of-requires
-normal-form-of-requires c κs =
-    let p = its-policy (c .before .before .before .before) in (p .long, encoded p, ordered (its-request (c .before .before)))
+normal-form-of-requires c κs = let p = its-policy (c .before .before .before) in (p .long, encoded p, its-request c .ordered)
 
-mul-if2 : tie.Need-mul-if2
-mul-if2 c = omega (arith, fits (c .before))
+mul-if1 : tie.Need-mul-if1
+mul-if1 c = omega (arith, fits (c .before))
 
-add-if2 : tie.Need-add-if2
-add-if2 c = omega (arith, fits (c .before))
+add-if1 : tie.Need-add-if1
+add-if1 c = omega (arith, fits (c .before))
 
 returns-3 : tie.Need-returns-3
 returns-3 c =
-    file-too-long (its-policy (c .before .before .before .before .before .before .before) .file) _
-    (its-request (c .before .before .before .before .before) .file) (its-form (c .before .before)) (c .if2 .taken)
+    file-too-long (its-policy (c .before .before .before .before .before .before) .file) _
+    (its-request (c .before .before .before) .file) (its-form (c .before .before)) (c .if1 .taken)
 
 array-share-prefix-list : tie.Need-array-share-prefix-list
 array-share-prefix-list c =
@@ -110,16 +102,16 @@ slice-aggregate-write-request c = sym (its-form (c .before .before .before) .fro
 write-request-requires : tie.Need-write-request-requires
 write-request-requires c κs =
     let n = its-form (c .before .before .before .before) .front in
-    (omega (arith, n, fits (c .before .before .before .before)), omega (arith, n, c .before .before .if2 .left))
+    (omega (arith, n, fits (c .before .before .before .before)), omega (arith, n, c .before .before .if1 .left))
 
 same-length : tie.Need-same-length
 same-length c = search needs
 
 returns-4 : tie.Need-returns-4
 returns-4 c =
-    file-written (its-policy (c .before .before .before .before .before .before .before .before .before .before .before .before) .file) _
-    (its-request (c .before .before .before .before .before .before .before .before .before .before) .file)
-    (its-form (c .before .before .before .before .before .before .before)) (c .before .before .before .before .before .if2 .left)
+    file-written (its-policy (c .before .before .before .before .before .before .before .before .before .before .before) .file) _
+    (its-request (c .before .before .before .before .before .before .before .before) .file)
+    (its-form (c .before .before .before .before .before .before .before)) (c .before .before .before .before .before .if1 .left)
     (c .before .before .write-request .ensures .0) (c .before .before .write-request .ensures .1)
 
 pub normal-form-spec : {M : Type 1} → statement M
@@ -131,12 +123,12 @@ normal-form-spec =
     returns
     enum-told
     read-request-requires
+    enum-known-number-2
     returns-2
-    array-share-prefix-held
-    slice-aggregate-normal-form-of
+    enum-told-2
     normal-form-of-requires
-    mul-if2
-    add-if2
+    mul-if1
+    add-if1
     returns-3
     array-share-prefix-list
     slice-aggregate-write-request
