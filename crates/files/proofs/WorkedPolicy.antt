@@ -5,20 +5,13 @@ use mathlib.Core.List.{List, [], _∷_, _++_}
 use native.Mathlib.Omega.{arith}
 use lib.ListN.{length, replicate}
 use borrow.Author.Tests.{lt-ltb}
-use Rattle.ptacl.specs.Term.{Policy, atom, deny, allow, targeted, not, default, and}
+use Rattle.ptacl.specs.Term.{Policy, deny, allow, not, and}
 use Rattle.files.specs.Encoding.{enc, depth, framed, policyFile}
 use Rattle.files.specs.Refusal.{accepted, refused, unframed}
 use Rattle.files.specs.ReadPolicy.{byteAt, headAt, scanAtom, body, scan, finish, readPolicy}
 use Rattle.files.specs.Places.{At}
 use Rattle.files.proofs.Framing.{unframed-whole}
 use Rattle.files.proofs.PolicyComplete.{complete}
-
-abbrev A : Policy
-A = not (default (not (targeted (atom 1 1) deny)))
-
-pub A-read : readPolicy (1 ∷ 0 ∷ 10 ∷ 0x23 ∷ 0x24 ∷ 0x23 ∷ 0x22 ∷ 0x10 ∷ 0 ∷ 1 ∷ 0 ∷ 1 ∷ 0x20 ∷ []) ≡ accepted A
-unfolding readPolicy unframed scan body headAt byteAt scanAtom
-A-read = refl
 
 -- files of 0, 1 and 2 bytes
 pub empty-file : readPolicy [] ≡ refused 1 0

@@ -1,20 +1,21 @@
--- The worked policies A to F of document 01, proved together as one table.
+-- The worked policies A to F of document 01 as terms, proved together as one table; and its counterexample to weak monotonicity.
 use Prim.Native.Nat.{ℕ, _<_, _-_, _^_}
-use mathlib.Core.Path.{_≡_, refl, ap₂, subst}
+use mathlib.Core.Path.{_≡_, refl, ap₂, subst, _∙_}
 use mathlib.Core.Bool.{Bool, true, false, not as no, _&&_}
 use mathlib.Core.List.{List, [], _∷_, map}
 use lib.Dec.{eqb, ltb}
 use lib.ListN.{length}
 use borrow.Author.Tests.{eqb-true, ltb-true, not-true}
+use Rattle.ptacl.specs.Value.{v0, vU}
 use Rattle.ptacl.specs.Values.{code, under, only}
-use Rattle.ptacl.specs.Request.{Pair, Request, samePair}
-use Rattle.ptacl.specs.Term.{Policy, atom, deny, allow, targeted, not, default, atoms}
+use Rattle.ptacl.specs.Request.{Pair, Request, samePair, Within}
+use Rattle.ptacl.specs.Term.{Target, Policy, atom, deny, allow, targeted, not, default, and, atoms}
 use Rattle.ptacl.specs.Meaning.{lift, lift2, eval}
 use Rattle.ptacl.specs.Pairs.{allBelow, IsPairs}
 use Rattle.ptacl.specs.Exposure.{strict, Resistant, bit, subset, Exposure, First}
 use Rattle.ptacl.specs.Rules.{Certificate, certificate}
-use Rattle.ptacl.proofs.Bools.{clash, and-left, and-right, and-both, not-false, below-at}
-use Rattle.ptacl.proofs.Requests.{pair-equal}
+use Rattle.ptacl.proofs.Bools.{clash, or-left, and-left, and-right, and-both, not-false, below-at}
+use Rattle.ptacl.proofs.Requests.{pair-equal, holds-append}
 use Rattle.ptacl.proofs.Pairs.{pairsOf, pairs-exist}
 use Rattle.ptacl.proofs.Exposed.{resistant-iff, exposure-index}
 use Rattle.ptacl.proofs.Cert.{certificate-is}
@@ -25,7 +26,7 @@ pub data Verdict : Type 0 where
 
 -- a policy, its pairs, the codes that it comes to at some requests, its certificate and the verdict of the search
 pub record Row : Type 0 where
-  pub body : Policy
+  pub policy : Policy
   pub pairs : List Pair
   pub codes : List (Request × ℕ)
   pub number : ℕ
@@ -36,10 +37,10 @@ Judged p ps resistant = Resistant p
 Judged p ps (exposedAt m i) = First (Exposure p ps) m i
 
 pub record Right (r : Row) : Type 0 where
-  pub listed : IsPairs (atoms (r .body)) (r .pairs)
-  pub coded : map (λ x. code (eval (r .body) (x .0))) (r .codes) ≡ map (λ x. x .1) (r .codes)
-  pub certified : Certificate (r .body) (r .number)
-  pub judged : Judged (r .body) (r .pairs) (r .verdict)
+  pub listed : IsPairs (atoms (r .policy)) (r .pairs)
+  pub coded : map (λ x. code (eval (r .policy) (x .0))) (r .codes) ≡ map (λ x. x .1) (r .codes)
+  pub certified : Certificate (r .policy) (r .number)
+  pub judged : Judged (r .policy) (r .pairs) (r .verdict)
 
 abbrev pub AllRight : List Row → Type 0
 AllRight [] = Unit {0}
@@ -63,7 +64,7 @@ abbrev pub E : Policy
 E = not (not (default (targeted (atom 1 2) allow)))
 
 abbrev row : Policy → List Pair → List (Request × ℕ) → ℕ → Verdict → Row
-row p ps cs n v = record { body = p; pairs = ps; codes = cs; number = n; verdict = v }
+row p ps cs n v = record { policy = p; pairs = ps; codes = cs; number = n; verdict = v }
 
 abbrev pub table : List Row
 table =
@@ -134,16 +135,16 @@ module _ (p : Policy) (ps : List Pair) where
 -- the tests of a row, and what they show
 module _ (r : Row) where
   abbrev testPairs : Bool
-  testPairs = sameList samePair (pairsOf (atoms (r .body))) (r .pairs)
+  testPairs = sameList samePair (pairsOf (atoms (r .policy))) (r .pairs)
 
   abbrev testCodes : Bool
-  testCodes = sameList eqb (map (λ x. code (eval (r .body) (x .0))) (r .codes)) (map (λ x. x .1) (r .codes))
+  testCodes = sameList eqb (map (λ x. code (eval (r .policy) (x .0))) (r .codes)) (map (λ x. x .1) (r .codes))
 
   abbrev testNumber : Bool
-  testNumber = eqb (certificate (r .body)) (r .number)
+  testNumber = eqb (certificate (r .policy)) (r .number)
 
   abbrev test : Bool
-  test = testPairs && (testCodes && (testNumber && judge (r .body) (r .pairs) (r .verdict)))
+  test = testPairs && (testCodes && (testNumber && judge (r .policy) (r .pairs) (r .verdict)))
 
   test-right : test ≡ true → Right r
   test-right h =
@@ -152,12 +153,12 @@ module _ (r : Row) where
       record {
         listed = pairs;
         coded = list-equal eqb eqb-true _ _ (and-left _ c);
-        certified = subst (Certificate (r .body)) (eqb-true _ _ (and-left _ d)) (certificate-is (r .body));
-        judged = judge-right (r .body) (r .pairs) (r .verdict) pairs (and-right testNumber d);
+        certified = subst (Certificate (r .policy)) (eqb-true _ _ (and-left _ d)) (certificate-is (r .policy));
+        judged = judge-right (r .policy) (r .pairs) (r .verdict) pairs (and-right testNumber d);
       }
     where
-      pairs : IsPairs (atoms (r .body)) (r .pairs)
-      pairs = subst (IsPairs (atoms (r .body))) (list-equal samePair pair-equal _ _ (and-left _ h)) (pairs-exist (atoms (r .body)))
+      pairs : IsPairs (atoms (r .policy)) (r .pairs)
+      pairs = subst (IsPairs (atoms (r .policy))) (list-equal samePair pair-equal _ _ (and-left _ h)) (pairs-exist (atoms (r .policy)))
 
 abbrev testAll : List Row → Bool
 testAll [] = true
@@ -170,3 +171,11 @@ all-right (r ∷ rs) h = (test-right r (and-left _ h), all-right rs (and-right (
 pub worked : AllRight table
 unfolding lift lift2 under only
 worked = all-right table refl
+
+-- for the strong and, weak monotonicity under U < 0 < 1 is false: 0 at {(1,0)}, U at {(1,0), (1,1)}
+abbrev both : Target
+both = and (atom 1 1) (atom 2 1)
+
+pub not-monotonic : Within ((1, 0) ∷ []) ((1, 0) ∷ (1, 1) ∷ []) × (eval both ((1, 0) ∷ []) ≡ v0) × (eval both ((1, 0) ∷ (1, 1) ∷ []) ≡ vU)
+unfolding lift2
+not-monotonic = (record { up = λ x h. holds-append ((1, 0) ∷ []) ((1, 1) ∷ []) x ∙ or-left _ h }, refl, refl)

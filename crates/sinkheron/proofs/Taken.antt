@@ -70,4 +70,3 @@ request-sent {s} b e =
       pairs = n;
       ordered = record { long = omega (arith, ap length (i .file)); ordered = record { rises = rw n (i .fits .ordered) } };
     }
-

@@ -1,18 +1,53 @@
--- Document 01's worked search and its edge of 16 pairs: the files of A's exposure, and how many pairs atoms of eight names give.
+-- Document 01's worked policies from their bodies: each is read to the term of ptacl's table, which holds of it, and the files of each
+-- exposure are told. Beside it the edge of 16 pairs.
 use Prim.Native.Nat.{ℕ, zero, suc}
 use mathlib.Core.Path.{_≡_, refl}
-use mathlib.Core.List.{List, [], _∷_}
+use mathlib.Core.List.{List, [], _∷_, map}
 use lib.ListN.{length}
 use Rattle.ptacl.specs.Term.{Policy, atom, allow, targeted, atoms}
 use Rattle.ptacl.proofs.Pairs.{pairsOf}
-use Rattle.ptacl.proofs.Worked.{A}
+use Rattle.ptacl.proofs.Worked.{Row, Right, AllRight, Verdict, resistant, exposedAt, table, worked}
 use Rattle.files.specs.Encoding.{framed, pairBytes, requestFile}
+use Rattle.files.specs.Refusal.{Read, accepted, unframed}
+use Rattle.files.specs.ReadPolicy.{byteAt, headAt, scanAtom, body, scan, readPolicy}
 use Rattle.search.specs.Found.{twoFiles, exposureFiles}
 
--- A is exposed at m 3, i 1 (ptacl's table): 18 bytes
-pub A-files : exposureFiles (pairsOf (atoms A)) 3 1 ≡ 1 ∷ 0 ∷ 4 ∷ 0 ∷ 1 ∷ 0 ∷ 0 ∷ 1 ∷ 0 ∷ 8 ∷ 0 ∷ 1 ∷ 0 ∷ 0 ∷ 0 ∷ 1 ∷ 0 ∷ 1 ∷ []
-unfolding twoFiles requestFile framed pairBytes
-A-files = refl
+-- A to F and deny, as document 01 writes them
+abbrev pub bodies : List (List ℕ)
+bodies =
+    (0x23 ∷ 0x24 ∷ 0x23 ∷ 0x22 ∷ 0x10 ∷ 0 ∷ 1 ∷ 0 ∷ 1 ∷ 0x20 ∷ [])
+    ∷ (0x24 ∷ 0x22 ∷ 0x10 ∷ 0 ∷ 1 ∷ 0 ∷ 2 ∷ 0x21 ∷ [])
+    ∷ (0x22 ∷ 0x11 ∷ 0x10 ∷ 0 ∷ 1 ∷ 0 ∷ 1 ∷ 0x21 ∷ [])
+    ∷ (0x22 ∷ 0x11 ∷ 0x12 ∷ 0x10 ∷ 0 ∷ 1 ∷ 0 ∷ 1 ∷ 0x21 ∷ [])
+    ∷ (0x23 ∷ 0x23 ∷ 0x24 ∷ 0x22 ∷ 0x10 ∷ 0 ∷ 1 ∷ 0 ∷ 2 ∷ 0x21 ∷ [])
+    ∷ (0x21 ∷ [])
+    ∷ (0x20 ∷ [])
+    ∷ []
+
+-- what a search leaves at the front of the space: for A the 18 bytes of document 01
+abbrev pub fronts : List (List ℕ)
+fronts =
+    (1 ∷ 0 ∷ 4 ∷ 0 ∷ 1 ∷ 0 ∷ 0 ∷ 1 ∷ 0 ∷ 8 ∷ 0 ∷ 1 ∷ 0 ∷ 0 ∷ 0 ∷ 1 ∷ 0 ∷ 1 ∷ [])
+    ∷ []
+    ∷ (1 ∷ 0 ∷ 4 ∷ 0 ∷ 1 ∷ 0 ∷ 0 ∷ 1 ∷ 0 ∷ 8 ∷ 0 ∷ 1 ∷ 0 ∷ 0 ∷ 0 ∷ 1 ∷ 0 ∷ 1 ∷ [])
+    ∷ (1 ∷ 0 ∷ 0 ∷ 1 ∷ 0 ∷ 4 ∷ 0 ∷ 1 ∷ 0 ∷ 1 ∷ [])
+    ∷ []
+    ∷ []
+    ∷ []
+    ∷ []
+
+abbrev frontOf : Row → List ℕ
+frontOf r = elim (r .verdict) [ resistant ↦ [] | exposedAt m i ↦ exposureFiles (r .pairs) m i ]
+
+-- all of it: the bodies are read to the table's terms, the table is right, and these files are written
+pub record FromBodies : Type 0 where
+  pub read : map (λ b. readPolicy (framed b)) bodies ≡ map (λ r. accepted (r .policy)) table
+  pub right : AllRight table
+  pub written : map frontOf table ≡ fronts
+
+pub from-bodies : FromBodies
+unfolding readPolicy unframed scan body headAt byteAt scanAtom twoFiles requestFile framed pairBytes
+from-bodies = record { read = refl; right = worked; written = refl }
 
 -- a policy with one atom for each of so many names
 abbrev names : ℕ → Policy → Policy
