@@ -1,20 +1,18 @@
 -- The files of two subsets, and of an exposure: at most 130 bytes for 16 pairs.
-use Prim.Native.Nat.{ℕ, _+_, _*_, _-_, _^_, _≤_}
+use Prim.Native.Nat.{ℕ, _+_, _*_, _-_, _^_, _≤_, _<_}
 use mathlib.Core.Path.{_≡_, _∙_}
-use mathlib.Core.Bool.{Bool}
+use mathlib.Core.Bool.{true}
 use mathlib.Core.List.{List, _++_, map}
 use native.Mathlib.Omega.{arith}
 use lib.ListN.{length, take, length-append, length-map}
 use lib.Seq.{take-append-seam}
 use Rattle.ptacl.specs.Pairs.{unpacked}
-use Rattle.ptacl.specs.Exposure.{subset, onePair}
+use Rattle.ptacl.specs.Exposure.{bit, subset}
 use Rattle.ptacl.proofs.Subset.{subset-map}
 use Rattle.files.specs.Encoding.{requestFile}
 use Rattle.files.specs.Memory.{over}
 use Rattle.files.proofs.Memory.{request-length}
-use Rattle.search.specs.Hits.{HitAt}
 use Rattle.search.specs.Found.{twoFiles}
-use Rattle.search.proofs.Word.{hit-index}
 use Rattle.search.proofs.Chosen.{subset-most, subset-less}
 
 -- what was written at the front
@@ -37,7 +35,6 @@ module _ (pairs : List ℕ) (smaller larger : ℕ) where
       → (n ≡ length (twoFiles (map unpacked pairs) smaller larger)) × (after ≡ over (twoFiles (map unpacked pairs) smaller larger) before)
   two-written before e f w = (w .0 ∙ rw (two-length, e, f), w .1 ∙ rw (two-files, e, f))
 
-pub exposure-length : (pairs : List ℕ) {P : ℕ → Bool} {m i d : ℕ} → length pairs ≤ 16 → HitAt P onePair (length pairs) m i → d ≡ 2 ^ i
+pub exposure-length : (pairs : List ℕ) (m i : ℕ) {d : ℕ} → length pairs ≤ 16 → i < length pairs → bit m i ≡ true → d ≡ 2 ^ i
     → length (twoFiles (map unpacked pairs) (m - d) m) ≤ 130
-exposure-length pairs {m} {i} {d} l h e =
-    rw e (omega (arith, two-length pairs (m - 2 ^ i) m, subset-most pairs m, subset-less pairs m i (hit-index h) (h .taken)))
+exposure-length pairs m i l h b e = rw e (omega (arith, two-length pairs (m - 2 ^ i) m, subset-most pairs m, subset-less pairs m i h b))

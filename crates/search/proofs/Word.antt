@@ -16,12 +16,9 @@ use Rattle.table.specs.Rows.{PairWord}
 use Rattle.table.proofs.Words.{ones, bit-and, bit-not, bit-none, bit-mod, bit-div, bit-low, bit-high}
 use Rattle.search.specs.Hits.{HitAt, LessWord, HitWord, QuietIf}
 
--- a hit takes one of the k pairs, which its subset holds
+-- a hit takes one of the k pairs
 pub hit-index : {P : ℕ → Bool} {k m i : ℕ} → HitAt P onePair k m i → i < k
 hit-index {k} {m} {i} h = bit-below m k i (h .numbered) (h .taken)
-
-pub hit-power : {P : ℕ → Bool} {k m i : ℕ} → HitAt P onePair k m i → 2 ^ i ≤ m
-hit-power {m} {i} h = bit-le m i (h .taken)
 
 -- a bit of a word that was moved up by s
 moved : (x s j : ℕ) → s ≤ j → j < 64 → bit (x * 2 ^ s % 2 ^ 64) j ≡ bit x (j - s)

@@ -8,8 +8,7 @@ ghost use Rattle.ptacl.specs.Exposure.{subset, onePair};
 ghost use Rattle.ptacl.specs.Pairs.{unpacked};
 ghost use Rattle.files.specs.Places.{Has};
 ghost use Rattle.files.specs.Memory.{over};
-ghost use Rattle.table.specs.Allowed.{bitAt};
-ghost use Rattle.search.specs.Hits.{HitAt, Finds, LessWord, HitWord, QuietIf};
+ghost use Rattle.search.specs.Hits.{FindsIn, LessWord, HitWord, QuietIf};
 ghost use Rattle.search.specs.Found.{twoFiles, FoundIn};
 use table::row::ONES;
 
@@ -66,28 +65,33 @@ fn is_quiet(allowed: &[u64; 1024], w: usize, k: usize) -> bool
     true
 }
 
-// The smallest m of an exposure, and for it the smallest i.
-pub fn find(allowed: &[u64; 1024], k: usize) -> Hit
-    requires { ⌜ k ≤ 16 ⌝ }
-    ensures { λ r. ⌜ Finds (HitAt (bitAt (now (allowed .entry))) onePair k) r ⌝ }
+// The smallest m of an exposure, and for it the smallest i. The next 512 subsets are judged when the first of them is met.
+pub fn find(file: &[u8], pairs: &[u32]) -> Hit
+    requires { ⌜ Has policy (now file) 3 255 × (length (now pairs) ≤ 16) ⌝ }
+    ensures { λ r. ⌜ FindsIn (now (file .entry)) (now (pairs .entry)) r ⌝ }
 {
+    let k = pairs.len();
     let end = pow2(k);
+    let mut allowed = [0u64; 1024];
     let mut m = 0;
     'subsets: loop {
         if m >= end {
             break 'subsets Hit::Nothing;
         }
+        if m % 512 == 0 {
+            table::fill_row(file, pairs, &mut allowed, m / 512);
+        }
         if m % 64 == 0 {
-            if is_quiet(allowed, m / 64, k) {
+            if is_quiet(&allowed, m / 64, k) {
                 m += 64;
                 continue 'subsets;
             }
         }
-        if !table::entry(allowed, m) {
+        if !table::entry(&allowed, m) {
             let mut i = 0;
             while i < k {
                 if (m >> i) % 2 == 1 {
-                    if table::entry(allowed, m - pow2(i)) {
+                    if table::entry(&allowed, m - pow2(i)) {
                         break 'subsets Hit::At { m, i };
                     }
                 }
@@ -136,9 +140,7 @@ pub fn search(file: &[u8], pairs: &[u32], space: &mut [u8]) -> Verdict
     requires { ⌜ Has policy (now file) 3 255 × (length (now pairs) ≤ 16) × (130 ≤ length (now space)) ⌝ }
     ensures { λ r. ⌜ FoundIn (now (file .entry)) (now (pairs .entry)) (now (space .entry)) r (now (space .exit)) ⌝ }
 {
-    let mut allowed = [0u64; 1024];
-    table::fill(file, pairs, &mut allowed);
-    match find(&allowed, pairs.len()) {
+    match find(file, pairs) {
         Hit::Nothing => Verdict::Resistant,
         Hit::At { m, i } => {
             let bytes = write_subsets(pairs, m - pow2(i), m, space);

@@ -1,18 +1,15 @@
 -- The table that is filled row by row.
-use Prim.Native.Nat.{ℕ, zero, suc, _+_, _*_, _-_, _/_, _%_, _^_, _≤_, _<_}
+use Prim.Native.Nat.{ℕ, zero, suc, _+_, _*_, _-_, _/_, _%_, _≤_, _<_}
 use mathlib.Core.Path.{_≡_, refl, ap, ap₂, _∙_}
 use mathlib.Core.List.{List, [], _∷_, map}
 use native.Mathlib.Decide.{decLe}
 use native.Mathlib.Omega.{arith}
 use lib.ListN.{length, getD, set, length-set}
 use lib.Seq.{getD-set-same, getD-set-other}
-use Rattle.ptacl.specs.Term.{Policy}
 use Rattle.ptacl.specs.Pairs.{unpacked}
 use Rattle.ptacl.specs.Exposure.{Reading, bit}
-use Rattle.files.specs.Encoding.{enc}
-use Rattle.files.specs.Places.{At}
 use Rattle.table.specs.declared.row.Row.{Row}
-use Rattle.table.specs.Allowed.{allowed, bitAt, Table}
+use Rattle.table.specs.Allowed.{allowed, bitAt, Filled}
 use Rattle.table.specs.Rows.{words, lane, AllowedRow, stored}
 
 stored-length : (t : List ℕ) (i : ℕ) (xs : List ℕ) → length (stored t i xs) ≡ length t
@@ -34,11 +31,6 @@ stored-at t i (x ∷ xs) (suc v) r h =
     ap (λ k. getD (stored (set t i x) (i + 1) xs) k 0) (omega arith)
     ∙ stored-at (set t i x) (i + 1) xs v (omega (arith, length-set t i x)) (omega arith)
 
--- the table is right at the subsets of the rows before w
-pub record Filled (g : Reading) (b pairs t : List ℕ) (w : ℕ) : Type 0 where
-  pub size : length t ≡ 1024
-  pub right : (p : Policy) → At b 3 (enc p) → (m : ℕ) → m < 512 * w → bitAt t m ≡ allowed g p (map unpacked pairs) m
-
 pub filled-start : {g : Reading} {b pairs t : List ℕ} → length t ≡ 1024 → Filled g b pairs t 0
 filled-start n = record { size = n; right = λ p h m l. absurd (omega arith) }
 
@@ -59,6 +51,3 @@ filled-more {g} {b} {pairs} {t} {w} r f l x = record {
     | no a ↦ ap (λ z. bit z (m % 64)) (stored-below t (w * 8) (words r) (m / 64) (omega arith)) ∙ f .right p h m (omega arith)
   ];
 }
-
-pub filled-end : {g : Reading} {b pairs t : List ℕ} {w : ℕ} → Filled g b pairs t w → 2 ^ length pairs ≤ 512 * w → Table g b pairs t
-filled-end f l = record { entry = λ p h m k. f .right p h m (omega arith) }

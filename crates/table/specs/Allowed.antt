@@ -1,5 +1,5 @@
 -- The table of allowed subsets: bit m is 1 exactly if the subset numbered m is allowed.
-use Prim.Native.Nat.{ℕ, _/_, _%_, _^_, _<_}
+use Prim.Native.Nat.{ℕ, _*_, _/_, _%_, _<_}
 use mathlib.Core.Path.{_≡_}
 use mathlib.Core.Bool.{Bool}
 use mathlib.Core.List.{List, map}
@@ -20,6 +20,7 @@ allowed g p ps m = g (eval p (subset ps m))
 unfoldable pub bitAt : List ℕ → ℕ → Bool
 bitAt t m = bit (getD t (m / 64) 0) (m % 64)
 
--- the table is that of the policy whose file this is, for these pairs
-pub record Table (g : Reading) (b pairs t : List ℕ) : Type 0 where
-  pub entry : (p : Policy) → At b 3 (enc p) → (m : ℕ) → m < 2 ^ length pairs → bitAt t m ≡ allowed g p (map unpacked pairs) m
+-- the table is right at the subsets of the rows before w, 512 to a row, for the policy whose file this is and these pairs
+pub record Filled (g : Reading) (b pairs t : List ℕ) (w : ℕ) : Type 0 where
+  pub size : length t ≡ 1024
+  pub right : (p : Policy) → At b 3 (enc p) → (m : ℕ) → m < 512 * w → bitAt t m ≡ allowed g p (map unpacked pairs) m

@@ -1,11 +1,11 @@
-// The table of allowed subsets of a policy's pairs. It is filled 512 subsets at a time: a request to each bit of eight words.
+// The table of allowed subsets of a policy's pairs, judged 512 at a time as they are needed: a request to each bit of eight words.
 ghost use mathlib.Core.Path.{_≡_};
-ghost use Prim.Native.Nat.{_+_, _*_, _^_, _<_, _≤_};
+ghost use Prim.Native.Nat.{_+_, _<_, _≤_};
 ghost use lib.ListN.{length};
 ghost use Rattle.ptacl.specs.Term.{policy};
 ghost use Rattle.ptacl.specs.Exposure.{strict};
 ghost use Rattle.files.specs.Places.{Has};
-ghost use Rattle.table.specs.Allowed.{bitAt, Table};
+ghost use Rattle.table.specs.Allowed.{bitAt, Filled};
 ghost use Rattle.table.specs.Rows.{words, PairWord, PairRows, stored};
 use crate::row::ONES;
 use crate::row::Row;
@@ -69,30 +69,14 @@ fn put_row(table: &mut [u64; 1024], at: usize, row: Row)
     table[at7] = row.w7;
 }
 
-// The rows that 2^k bits take, and at least one.
-fn rows_of(k: usize) -> usize
-    requires { ⌜ k ≤ 16 ⌝ }
-    ensures { λ r. ⌜ (r ≤ 128) × (2 ^ k ≤ 512 * r) ⌝ }
+// Row w, a bit for each of its subsets of the pairs: whether it is allowed.
+pub fn fill_row(file: &[u8], pairs: &[u32], table: &mut [u64; 1024], w: usize)
+    requires { ⌜ Has policy (now file) 3 255 × (length (now pairs) ≤ 16) × (w < 128) × Filled strict (now file) (now pairs) (now table) w ⌝ }
+    ensures { λ _. ⌜ Filled strict (now (file .entry)) (now (pairs .entry)) (now (table .exit)) (w + 1) ⌝ }
 {
-    if k < 9 {
-        return 1;
-    }
-    1 << (k - 9)
-}
-
-// A bit for each subset of the pairs: whether it is allowed.
-pub fn fill(file: &[u8], pairs: &[u32], table: &mut [u64; 1024])
-    requires { ⌜ Has policy (now file) 3 255 × (length (now pairs) ≤ 16) × (length (now table) ≡ 1024) ⌝ }
-    ensures { λ _. ⌜ (length (now (table .exit)) ≡ 1024) × Table strict (now (file .entry)) (now (pairs .entry)) (now (table .exit)) ⌝ }
-{
-    let end = rows_of(pairs.len());
-    let mut w = 0;
-    while w < end {
-        let rows = pair_rows(w);
-        let row = judge::judge(file, pairs, &rows, w);
-        put_row(&mut *table, w * 8, row);
-        w += 1;
-    }
+    let rows = pair_rows(w);
+    let row = judge::judge(file, pairs, &rows, w);
+    put_row(table, w * 8, row);
 }
 
 // Whether the subset m is allowed.

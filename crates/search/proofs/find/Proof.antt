@@ -1,37 +1,55 @@
--- The outer loop's invariant: no hit before m; the inner loop's: none at m before i. So the hit that is carried out is the first.
-use Prim.Native.Nat.{_-_, _≤_}
+-- The outer loop's invariant: the rows met so far are judged, and no subset before m exposes; the inner loop's: none at m before i. So the hit
+-- that is carried out is the first.
+use Prim.Native.Nat.{_+_, _-_, _/_, _≤_}
 use mathlib.Core.Path.{sym, _∙_}
 use mathlib.Core.Logic.{⊎-elim}
 use native.Mathlib.Omega.{arith}
 use lib.Pow.{pow-mono}
+use lib.ListN.{length}
 use borrow.Author.Needs.{needs}
 use borrow.Author.Tests.{eqb-true, eq-eqb, not-true, not-false}
 use Rattle.ptacl.specs.Exposure.{onePair}
 use Rattle.ptacl.proofs.Bools.{clash}
+use Rattle.ptacl.proofs.Bits.{bit-le}
 use Rattle.table.specs.Allowed.{bitAt}
 use Rattle.search.specs.Hits.{HitAt, Finds}
-use Rattle.ptacl.proofs.Bits.{bit-le}
-use Rattle.search.proofs.Steps.{NoneBefore, NoneAt, before-start, before-more, before-quiet, at-start, at-more, at-end}
+use Rattle.search.proofs.Steps.{NoneAt, at-start, at-more, at-end, exposed-subset, to-table, from-table}
+use Rattle.search.proofs.Steps.{Searching, searching-start, row-due, row-new, row-there, searching-more, searching-quiet}
 use Rattle.search.proofs.find.Statement.{statement}
 use Rattle.search.proofs.find.Tie as tie
 
 abbrev Inv-loop : tie.InvT-loop
-Inv-loop allowed k end m i₀ i = NoneAt (HitAt (bitAt allowed) onePair k) m i
+Inv-loop file pairs k end allowed m i₀ i = NoneAt (HitAt (bitAt allowed) onePair k) m i
 
 abbrev μ-loop : tie.MeasureT-loop
-μ-loop allowed k end m i₀ i = k - i
+μ-loop file pairs k end allowed m i₀ i = k - i
 
 abbrev Inv-subsets : tie.InvT-subsets
-Inv-subsets allowed k end m₀ m = (end ≤ 65536) × NoneBefore (HitAt (bitAt allowed) onePair k) m
+Inv-subsets file pairs k end allowed₀ m₀ allowed m = (end ≤ 65536) × Searching file pairs allowed ((m + 511) / 512) m
 
 abbrev μ-subsets : tie.MeasureT-subsets
-μ-subsets allowed k end m₀ m = end - m
+μ-subsets file pairs k end allowed₀ m₀ allowed m = end - m
+
+-- behind the test for a new row, the row of m is judged
+ready : (c : tie.Joined2 Inv-loop μ-loop Inv-subsets μ-subsets) →
+    let a = c .before .before .before .before .before .before .args in
+    let m = c .before .before .subsets .m in
+    Searching (a .file .now) (a .pairs .now) (c .if2 .allowed) (m / 512 + 1) m
+ready c =
+    let v = c .before .before .subsets .inv .1 in
+    ⊎-elim (λ w. rw (w .3) (row-new v (w .2 .ensures))) (λ w. rw (w .1) (row-there v (w .0 .left))) (c .if2 .came)
 
 pow2-requires : tie.Need-pow2-requires Inv-loop μ-loop Inv-subsets μ-subsets
 pow2-requires c κs = search needs
 
 subsets-holds : tie.Need-subsets-holds Inv-loop μ-loop Inv-subsets μ-subsets
-subsets-holds c = (omega (arith, pow-mono {i = c .before .args .k} {j = 16} (omega arith)), before-start)
+subsets-holds c = (omega (arith, c .pow2 .ensures, pow-mono {i = length (c .before .before .before .args .pairs .now)} {j = 16} (omega (arith, c .before .before .before .pre .1))), searching-start (search needs))
+
+fill-row-requires : tie.Need-fill-row-requires Inv-loop μ-loop Inv-subsets μ-subsets
+fill-row-requires c κs =
+    let v = c .before .before .before .subsets .inv in
+    let p = c .before .before .before .before .before .before .before .pre in
+    (p .0, p .1, omega (arith, v .0, c .before .before .if1 .left), row-due (v .1) (c .before .if2 .taken))
 
 is-quiet-requires : tie.Need-is-quiet-requires Inv-loop μ-loop Inv-subsets μ-subsets
 is-quiet-requires c κs = search needs
@@ -44,8 +62,8 @@ subsets-less c = search needs
 
 subsets-again : tie.Need-subsets-again Inv-loop μ-loop Inv-subsets μ-subsets
 subsets-again c =
-    let v = c .before .before .before .before .subsets .inv in
-    (v .0, before-quiet (v .1) (c .before .before .if2 .taken) (rw (c .if3 .taken) at (c .before .is-quiet .ensures)))
+    let r = ready (c .before .before .before .before) in
+    (c .before .before .before .before .before .before .subsets .inv .0, searching-quiet r (c .before .before .before .if3 .taken) (rw (c .if4 .taken) at (c .before .is-quiet .ensures)))
 
 entry-requires : tie.Need-entry-requires Inv-loop μ-loop Inv-subsets μ-subsets
 entry-requires c κs = search needs
@@ -53,16 +71,14 @@ entry-requires c κs = search needs
 loop-holds : tie.Need-loop-holds Inv-loop μ-loop Inv-subsets μ-subsets
 loop-holds c = at-start
 
-shr-if5 : tie.Need-shr-if5 Inv-loop μ-loop Inv-subsets μ-subsets
-shr-if5 c = search needs
+shr-if6 : tie.Need-shr-if6 Inv-loop μ-loop Inv-subsets μ-subsets
+shr-if6 c = search needs
 
 pow2-requires-2 : tie.Need-pow2-requires-2 Inv-loop μ-loop Inv-subsets μ-subsets
 pow2-requires-2 c κs = search needs
 
 sub-entry : tie.Need-sub-entry Inv-loop μ-loop Inv-subsets μ-subsets
-sub-entry c =
-    let m = c .before .before .before .before .before .before .before .before .subsets .m in
-    omega (arith, bit-le m (c .before .before .before .loop .i) (eq-eqb _ _ (c .before .if5 .taken)))
+sub-entry c = omega (arith, c .pow22 .ensures, bit-le (c .before .before .before .before .before .before .before .before .before .before .before .subsets .m) (c .before .before .before .before .loop .i) (eq-eqb _ _ (c .before .before .if6 .taken)))
 
 entry-requires-2 : tie.Need-entry-requires-2 Inv-loop μ-loop Inv-subsets μ-subsets
 entry-requires-2 c κs = search needs
@@ -75,9 +91,9 @@ loop-less c = search needs
 
 loop-again : tie.Need-loop-again Inv-loop μ-loop Inv-subsets μ-subsets
 loop-again c = at-more (c .before .before .loop .inv) (λ e. ⊎-elim
-    (λ w. clash (e .smaller) (rw (← w .1 .ensures) (sym (w .2 .ensures) ∙ w .3 .left)))
+    (λ w. clash (e .smaller) (rw (← w .2 .ensures) (sym (w .3 .ensures) ∙ w .4 .left)))
     (λ w. w .left (eqb-true _ _ (e .taken)))
-    (c .if5 .came))
+    (c .if6 .came))
 
 add-m-2 : tie.Need-add-m-2 Inv-loop μ-loop Inv-subsets μ-subsets
 add-m-2 c = search needs
@@ -87,31 +103,39 @@ subsets-less-2 c = search needs
 
 subsets-again-2 : tie.Need-subsets-again-2 Inv-loop μ-loop Inv-subsets μ-subsets
 subsets-again-2 c =
-    let v = c .before .before .before .before .subsets .inv in (
-      v .0,
-      before-more (v .1) (⊎-elim
+    let r = ready (c .before .before .before .before) in (
+      c .before .before .before .before .before .before .subsets .inv .0,
+      searching-more r (⊎-elim
           (λ w. at-end (w .1 .inv) (w .2 .left))
           (λ w n e. clash (sym (c .before .entry .ensures) ∙ not-false _ (w .left)) (e .larger))
-          (c .if4 .came)),
+          (c .if5 .came)),
     )
 
 returns : tie.Need-returns Inv-loop μ-loop Inv-subsets μ-subsets
-returns c = Finds.nothing (λ n i h. c .before .subsets .inv .1 .none n (omega (arith, h .numbered)) i h)
+returns c =
+    let a = c .before .before .before .before .before .args in
+    record {
+      right = λ p h. Finds.nothing (λ n i e.
+          c .before .subsets .inv .1 .none p h .none n
+          (omega (arith, exposed-subset (a .pairs .now) e, c .before .before .pow2 .ensures, c .if1 .taken)) i e);
+    }
 
 returns-2 : tie.Need-returns-2 Inv-loop μ-loop Inv-subsets μ-subsets
 returns-2 c =
-    let l = c .before .before .before .before .before .before .before .before .before .before .subsets in
-    let e = c .before .before .before .before .before .before .before .entry .ensures in
-    Finds.at {m = l .m} (record {
-      hit = record {
-        numbered = omega arith;
-        larger = sym e ∙ not-true _ (c .before .before .before .before .before .before .if4 .taken);
-        taken = eq-eqb _ _ (c .before .before .before .if5 .taken);
-        smaller = rw (← c .before .before .pow22 .ensures) (sym (c .before .entry2 .ensures) ∙ c .if6 .taken);
-      };
-      earlier = λ {m'} {i'} k h. l .inv .1 .none m' k i' h;
-      before = λ {i'} k h. c .before .before .before .before .before .loop .inv .none i' k h;
-    })
+    let l = c .before .before .before .before .before .before .before .before .before .before .before .before .before .subsets in
+    let r = ready (c .before .before .before .before .before .before .before .before .before .before .before) in
+    record {
+      right = λ p h. Finds.at {m = l .m} (record {
+        hit = from-table (r .judged) p h (omega arith) (record {
+          numbered = omega (arith, c .before .before .before .before .before .before .before .before .before .before .before .before .before .before .pow2 .ensures, c .before .before .before .before .before .before .before .before .before .before .before .before .if1 .left);
+          larger = sym (c .before .before .before .before .before .before .before .before .entry .ensures) ∙ not-true _ (c .before .before .before .before .before .before .before .if5 .taken);
+          taken = eq-eqb _ _ (c .before .before .before .before .if6 .taken);
+          smaller = rw (← c .before .before .pow22 .ensures) (sym (c .before .entry2 .ensures) ∙ c .if7 .taken);
+        });
+        earlier = λ {m'} {i'} k e. r .none p h .none m' k i' e;
+        before = λ {i'} k e. c .before .before .before .before .before .before .loop .inv .none i' k (to-table (r .judged) p h (omega arith) e);
+      });
+    }
 
 pub find-spec : {M : Type 1} → statement M
 find-spec =
@@ -123,13 +147,14 @@ find-spec =
     μ-subsets
     pow2-requires
     subsets-holds
+    fill-row-requires
     is-quiet-requires
     add-m
     subsets-less
     subsets-again
     entry-requires
     loop-holds
-    shr-if5
+    shr-if6
     pow2-requires-2
     sub-entry
     entry-requires-2

@@ -1,14 +1,17 @@
--- The table's first hit is the policy's first exposure, and its files have at most 130 bytes.
+-- What is found is the policy's first exposure, and its files have at most 130 bytes.
+use Prim.Native.Nat.{_<_}
+use mathlib.Core.List.{map}
 use native.Mathlib.Omega.{arith}
+use lib.ListN.{length}
 use borrow.Author.Needs.{needs}
-use Rattle.search.proofs.Word.{hit-index, hit-power}
+use Rattle.ptacl.specs.Pairs.{unpacked}
+use Rattle.ptacl.specs.Exposure.{Exposure}
+use Rattle.ptacl.proofs.Bits.{bit-le}
+use Rattle.search.proofs.Steps.{exposed-pair}
 use Rattle.search.proofs.Files.{exposure-length}
 use Rattle.search.proofs.Answer.{found-hit, none-found, first-found}
 use Rattle.search.proofs.search.Statement.{statement}
 use Rattle.search.proofs.search.Tie as tie
-
-fill-requires : tie.Need-fill-requires
-fill-requires c κs = search needs
 
 find-requires : tie.Need-find-requires
 find-requires c κs = search needs
@@ -19,42 +22,48 @@ enum-told c = search needs
 enum-known-m : tie.Need-enum-known-m
 enum-known-m c = search needs
 
+-- what was found is an exposure of the policy
+exposed : (c : tie.After-m) →
+    let s = c .before .before .before .before .before .before in
+    Exposure (s .pre .0 .term) (map unpacked (s .args .pairs .now)) (c .m .given .0 .0) (c .m .given .0 .1 .0)
+exposed c =
+    let s = c .before .before .before .before .before .before in
+    found-hit ((rw (c .m .given .1) at (c .before .before .find .ensures)) .right _ (s .pre .0 .here))
+
+pair : (c : tie.After-m) → c .m .given .0 .1 .0 < length (c .before .before .before .before .before .before .args .pairs .now)
+pair c = exposed-pair (c .before .before .before .before .before .before .args .pairs .now) (exposed c)
+
 pow2-requires : tie.Need-pow2-requires
-pow2-requires c κs =
-    let e = found-hit (rw (c .before .m .given .1) at (c .before .before .before .find .ensures)) in
-    omega (arith, hit-index e)
+pow2-requires c κs = omega (arith, pair (c .before))
 
 sub-write-subsets : tie.Need-sub-write-subsets
 sub-write-subsets c =
-    let e = found-hit (rw (c .before .before .m .given .1) at (c .before .before .before .before .find .ensures)) in
-    omega (arith, hit-power e)
+    let e = c .before .before in
+    omega (arith, bit-le (e .m .given .0 .0) (e .m .given .0 .1 .0) (exposed e .taken))
 
 write-subsets-requires : tie.Need-write-subsets-requires
 write-subsets-requires c κs =
-    let e = found-hit (rw (c .before .before .before .m .given .1) at (c .before .before .before .before .before .find .ensures)) in
-    let s = c .before .before .before .before .before .before .before .before .before .before .before .before in
-    omega (arith, exposure-length (s .args .pairs .now) (s .pre .1) e (c .before .pow2 .ensures))
+    let s = c .before .before .before .before .before .before .before .before .before in
+    let e = c .before .before .before in
+    omega (arith, exposure-length (s .args .pairs .now) _ _ (s .pre .1) (pair e) (exposed e .taken) (c .before .pow2 .ensures))
 
 returns : tie.Need-returns
 returns c =
-    let t = c .before .before .before .before .fill .ensures .1 in
-    none-found t (rw (c .enum-told .given .1) at (c .before .before .find .ensures))
+    none-found (rw (c .enum-told .given .1) at (c .before .before .find .ensures))
 
 same-length : tie.Need-same-length
 same-length c = search needs
 
 returns-2 : tie.Need-returns-2
 returns-2 c =
-    let t = c .before .before .before .before .before .before .before .before .before .before .fill .ensures .1 in
     let m = c .before .before .before .before .before .before .m .given .1 in
     let f = rw m at (c .before .before .before .before .before .before .before .before .find .ensures) in
-    first-found t _ f (c .before .before .before .before .pow2 .ensures) (c .before .before .write-subsets .ensures)
+    first-found _ f (c .before .before .before .before .pow2 .ensures) (c .before .before .write-subsets .ensures)
 
 pub search-spec : {M : Type 1} → statement M
 search-spec =
     tie.close
     (tie.spec
-    fill-requires
     find-requires
     enum-told
     enum-known-m
