@@ -41,35 +41,50 @@ tagOf (aNot policy) = 0x23
 tagOf (aDefault policy) = 0x24
 tagOf (anAnd policy) = 0x25
 
+-- the table's column "followed by": what is below a node, and the term that it makes of that; of two terms the second is of the
+-- node's own sort
+pub data Shape (s : Sort) : Type 0 where
+  numbers : (ℕ → ℕ → Term s) → Shape s
+  leaf : Term s → Shape s
+  one : (Term s → Term s) → Shape s
+  two : (r : Sort) → (Term r → Term s → Term s) → Shape s
+
+abbrev pub shape : {s : Sort} → Node s → Shape s
+shape anAtom = numbers atom
+shape aDeny = leaf deny
+shape anAllow = leaf allow
+shape aTargeted = two target targeted
+shape (aNot s) = one (λ t. not t)
+shape (aDefault s) = one (λ t. default t)
+shape (anAnd s) = two s (λ t u. and t u)
+
+-- what comes of a term, by the shape of its node, from what comes of the terms below it
+pub record Steps (A : Type 0) : Type 0 where
+  pub numbers : ℕ → ℕ → A
+  pub leaf : (s : Sort) → Node s → A
+  pub one : (s : Sort) → Node s → A → A
+  pub two : (s : Sort) → Node s → A → A → A
+
+abbrev pub fold : {A : Type 0} → Steps A → {s : Sort} → Term s → A
+fold f (atom n v) = f .numbers n v
+fold f deny = f .leaf policy aDeny
+fold f allow = f .leaf policy anAllow
+fold f (targeted t p) = f .two policy aTargeted (fold f t) (fold f p)
+fold f (not {s = s} t) = f .one s (aNot s) (fold f t)
+fold f (default {s = s} t) = f .one s (aDefault s) (fold f t)
+fold f (and {s = s} t u) = f .two s (anAnd s) (fold f t) (fold f u)
+
 -- how many nodes it has
 abbrev pub nodes : {s : Sort} → Term s → ℕ
-nodes (atom n v) = 1
-nodes deny = 1
-nodes allow = 1
-nodes (targeted t p) = 1 + nodes t + nodes p
-nodes (not t) = 1 + nodes t
-nodes (default t) = 1 + nodes t
-nodes (and t u) = 1 + nodes t + nodes u
+nodes t = fold (record { numbers = λ n v. 1; leaf = λ s k. 1; one = λ s k m. 1 + m; two = λ s k m n. 1 + m + n }) t
 
 -- the pairs of its atoms, from left to right
 abbrev pub atoms : {s : Sort} → Term s → List Pair
-atoms (atom n v) = (n, v) ∷ []
-atoms deny = []
-atoms allow = []
-atoms (targeted t p) = atoms t ++ atoms p
-atoms (not t) = atoms t
-atoms (default t) = atoms t
-atoms (and t u) = atoms t ++ atoms u
+atoms t = fold (record { numbers = λ n v. (n, v) ∷ []; leaf = λ s k. []; one = λ s k xs. xs; two = λ s k xs ys. xs ++ ys }) t
 
 -- the test passes at every node
 abbrev pub every : ((r : Sort) → Node r → Bool) → {s : Sort} → Term s → Bool
-every f (atom n v) = f target anAtom
-every f deny = f policy aDeny
-every f allow = f policy anAllow
-every f (targeted t p) = f policy aTargeted && (every f t && every f p)
-every f (not {s = s} t) = f s (aNot s) && every f t
-every f (default {s = s} t) = f s (aDefault s) && every f t
-every f (and {s = s} t u) = f s (anAnd s) && (every f t && every f u)
+every f t = fold (record { numbers = λ n v. f target anAtom; leaf = f; one = λ s k x. f s k && x; two = λ s k x y. f s k && (x && y) }) t
 
 -- it has no such node
 abbrev pub without : {r s : Sort} → Node r → Term s → Bool
