@@ -8,66 +8,54 @@ use lib.Dec.{eqb}
 use lib.ListN.{length, getD, take, drop, length-append, length-drop}
 use lib.Seq.{take-at}
 use borrow.Author.Tests.{eq-eqb, ne-eqb}
-use Rattle.ptacl.specs.Term.{Sort, target, policy, Target, Policy, deny, allow, targeted, not, default, and, without}
-use Rattle.ptacl.specs.Term.{Node, anAtom, aDeny, anAllow, aTargeted, aNot, aDefault, anAnd, tagOf}
+use Rattle.ptacl.specs.Term.{Sort, target, policy, Term, Policy, deny, allow, targeted, not, default, and, without}
+use Rattle.ptacl.specs.Term.{Node, aTargeted, aNot, aDefault, anAnd, tagOf, leaf, one, two, shape}
 use Rattle.ptacl.specs.Rules.{allows, never, rule2, rule3, rule4, base, given, certificate, Certificate}
 use Rattle.ptacl.proofs.Cert.{certificate-is}
 use Rattle.files.specs.Encoding.{enc}
+use Rattle.files.specs.Prefix.{spell}
 use Rattle.files.specs.Places.{At, Has}
-use Rattle.files.proofs.View.{View, deny-at, allow-at, targeted-at, not-at, default-at, and-at, view}
-use Rattle.files.proofs.View.{has-room, Inner, a-not, a-default, an-and}
-use Rattle.files.proofs.View.{as-deny, as-allow, as-targeted, as-not, as-default, as-and}
-use Rattle.files.proofs.View.{ends-atom, ends-deny, ends-allow, ends-targeted, ends-not, ends-default, ends-and}
+use Rattle.files.proofs.Places.{head}
+use Rattle.files.proofs.View.{as-node, as-two, EndsBy, ends, has-room, Inner, a-not, a-default, an-and}
 use Rattle.certify.specs.Judged.{Behind, Judged, PolicyBytes, Lacks, NodeRule}
 
 module _ {b : List ℕ} {i : ℕ} where
   -- the place behind a term
-  pub behind-atom : getD b i 0 ≡ tagOf anAtom → Behind target b i (i + 5)
-  behind-atom e = record { past = ends-atom e }
+  pub behind : {s : Sort} {m : ℕ} (k : Node s) → getD b i 0 ≡ tagOf k → EndsBy b i m (shape k) → Behind s b i m
+  behind k e d = record { past = ends k e d }
 
   pub behind-one : {s : Sort} {m : ℕ} → Inner s (getD b i 0) → (getD b i 0 ≡ tagOf (anAnd s) → ⊥) → Behind s b (i + 1) m → Behind s b i m
-  behind-one (a-not e) n d = record { past = ends-not e (d .past) }
-  behind-one (a-default e) n d = record { past = ends-default e (d .past) }
+  behind-one {s} (a-not e) n d = behind (aNot s) e (d .past)
+  behind-one {s} (a-default e) n d = behind (aDefault s) e (d .past)
   behind-one (an-and e) n d = absurd (n e)
 
-  pub behind-and : {s : Sort} {m n : ℕ} → getD b i 0 ≡ tagOf (anAnd s) → Behind s b (i + 1) m → Behind s b m n → Behind s b i n
-  behind-and e d f = record { past = ends-and e (d .past) (f .past) }
-
-  -- a judgement of a policy, by any judgement of the policies below it
-  module _ {A : Type 0} {judge : Policy → A} {answer : A} where
-    pub judged-deny : getD b i 0 ≡ tagOf aDeny → answer ≡ judge deny → Judged judge b i answer (i + 1)
-    judged-deny e f = record { right = as-deny _ e f; behind = record { past = ends-deny e } }
-
-    pub judged-allow : getD b i 0 ≡ tagOf anAllow → answer ≡ judge allow → Judged judge b i answer (i + 1)
-    judged-allow e f = record { right = as-allow _ e f; behind = record { past = ends-allow e } }
+  -- a judgement of a policy, by any judgement of the policies below it: one law for each shape
+  module _ {A : Type 0} {judge : Policy → A} {answer : A} (k : Node policy) where
+    pub judged-leaf : {p : Policy} → shape k ≡ leaf p → getD b i 0 ≡ tagOf k → answer ≡ judge p → Judged judge b i answer (i + 1)
+    judged-leaf x e f = record { right = as-node k _ e (rw x f); behind = behind k e (rw x refl) }
 
     module _ {B : Type 0} {part : Policy → B} {first : B} {m : ℕ} where
-      pub judged-targeted : {n : ℕ} → getD b i 0 ≡ tagOf aTargeted → Behind target b (i + 1) n → Judged part b n first m
-          → ((t : Target) (p : Policy) → first ≡ part p → answer ≡ judge (targeted t p)) → Judged judge b i answer m
-      judged-targeted e d j f = record {
-        right = as-targeted _ e (d .past) (λ t p h g. f t p (j .right p g));
-        behind = record { past = ends-targeted e (d .past) (j .behind .past) };
+      pub judged-one : {g : Policy → Policy} → shape k ≡ one g → getD b i 0 ≡ tagOf k → Judged part b (i + 1) first m
+          → ((p : Policy) → first ≡ part p → answer ≡ judge (g p)) → Judged judge b i answer m
+      judged-one x e j f = record {
+        right = as-node k _ e (rw x (λ p h. f p (j .right p h)));
+        behind = behind k e (rw x (j .behind .past));
       }
 
-      pub judged-not : getD b i 0 ≡ tagOf (aNot policy) → Judged part b (i + 1) first m
-          → ((p : Policy) → first ≡ part p → answer ≡ judge (not p)) → Judged judge b i answer m
-      judged-not e j f = record {
-        right = as-not _ e (λ p h. f p (j .right p h));
-        behind = record { past = ends-not e (j .behind .past) };
+      -- the first of two terms may be passed over, or judged too
+      pub judged-second : {r : Sort} {n : ℕ} {g : Term r → Policy → Policy} → shape k ≡ two r g → getD b i 0 ≡ tagOf k → Behind r b (i + 1) n
+          → Judged part b n first m → ((t : Term r) (p : Policy) → first ≡ part p → answer ≡ judge (g t p)) → Judged judge b i answer m
+      judged-second x e d j f = record {
+        right = as-two k x _ e (d .past) (λ t p h g. f t p (j .right p g));
+        behind = behind k e (rw x (_, d .past, j .behind .past));
       }
 
-      pub judged-default : getD b i 0 ≡ tagOf (aDefault policy) → Judged part b (i + 1) first m
-          → ((p : Policy) → first ≡ part p → answer ≡ judge (default p)) → Judged judge b i answer m
-      judged-default e j f = record {
-        right = as-default _ e (λ p h. f p (j .right p h));
-        behind = record { past = ends-default e (j .behind .past) };
-      }
-
-      pub judged-and : {second : B} {n : ℕ} → getD b i 0 ≡ tagOf (anAnd policy) → Judged part b (i + 1) first m → Judged part b m second n
-          → ((p r : Policy) → first ≡ part p → second ≡ part r → answer ≡ judge (and p r)) → Judged judge b i answer n
-      judged-and e j k f = record {
-        right = as-and _ e (j .behind .past) (λ p r h g. f p r (j .right p h) (k .right r g));
-        behind = record { past = ends-and e (j .behind .past) (k .behind .past) };
+      pub judged-two : {second : B} {n : ℕ} {g : Policy → Policy → Policy} → shape k ≡ two policy g → getD b i 0 ≡ tagOf k
+          → Judged part b (i + 1) first m → Judged part b m second n
+          → ((p r : Policy) → first ≡ part p → second ≡ part r → answer ≡ judge (g p r)) → Judged judge b i answer n
+      judged-two x e j l f = record {
+        right = as-two k x _ e (j .behind .past) (λ p r h g. f p r (j .right p h) (l .right r g));
+        behind = behind k e (rw x (_, j .behind .past, l .behind .past));
       }
 
 -- the rules 2, 3 and 4 by the nodes
@@ -160,25 +148,26 @@ module _ {b : List ℕ} {i n : ℕ} where
 
       pub certified-default : {body number m : ℕ} → getD b i 0 ≡ tagOf (aDefault policy) → Judged certificate b (i + 1) body m
           → number ≡ given body 5 → Judged certificate b i number m
-      certified-default e k f = by-parts (judged-default e k (λ p h. f ∙ ap (λ x. given x 5) h))
+      certified-default e k f = by-parts (judged-one (aDefault policy) refl e k (λ p h. f ∙ ap (λ x. given x 5) h))
 
       pub certified-and : {first second inner number l m : ℕ} → getD b i 0 ≡ tagOf (anAnd policy)
           → Judged certificate b (i + 1) first l → Judged certificate b l second m
           → inner ≡ given second 6 → number ≡ given first inner → Judged certificate b i number m
       certified-and {first = first} e k l f g =
-          by-parts (judged-and e k l (λ p r h w. g ∙ ap (given first) f ∙ ap₂ (λ x y. given x (given y 6)) h w))
+          by-parts (judged-two (anAnd policy) refl e k l (λ p r h w. g ∙ ap (given first) f ∙ ap₂ (λ x y. given x (given y 6)) h w))
 
       pub certified-none : (getD b i 0 ≡ tagOf (aDefault policy) → ⊥) → (getD b i 0 ≡ tagOf (anAnd policy) → ⊥)
           → Judged certificate b i answer n
-      certified-none d a = by-parts (record { right = λ p h. z ∙ go (view p h) d a; behind = j .behind })
+      unfolding enc spell
+      certified-none d a = by-parts (record { right = λ p h. z ∙ go p h; behind = j .behind })
         where
-          go : {p : Policy} {k : ℕ} → View b i policy p k → (k ≡ tagOf (aDefault policy) → ⊥) → (k ≡ tagOf (anAnd policy) → ⊥) → 0 ≡ below p
-          go deny-at d a = refl
-          go allow-at d a = refl
-          go (targeted-at h g) d a = refl
-          go (not-at h) d a = refl
-          go (default-at h) d a = absurd (d refl)
-          go (and-at h g) d a = absurd (a refl)
+          go : (p : Policy) → At b i (enc p) → 0 ≡ below p
+          go deny h = refl
+          go allow h = refl
+          go (targeted t p) h = refl
+          go (not p) h = refl
+          go (default p) h = absurd (d (head h))
+          go (and p r) h = absurd (a (head h))
 
 -- for the caller: the number is that of the policy's certificate
 pub certified : {b : List ℕ} {i n next : ℕ} {p : Policy} → Judged certificate b i n next → At b i (enc p) → Certificate p n

@@ -17,8 +17,7 @@ use Rattle.files.specs.Refusal.{dec16}
 use Rattle.files.specs.Places.{At, Has}
 use Rattle.files.proofs.BigEndian.{dec16-range}
 use Rattle.files.proofs.Numbers.{unpacked-packed}
-use Rattle.files.proofs.View.{as-atom, as-deny, as-allow, as-targeted, as-not, as-default, as-and}
-use Rattle.files.proofs.View.{has-left, ends-atom, ends-deny, ends-allow, ends-targeted, ends-not, ends-default, ends-and}
+use Rattle.files.proofs.View.{has-left, as-node, as-two, ends}
 use Rattle.evaluate.specs.Evaluated.{Told, told, Evaluated}
 
 -- what an operation on values makes of an answer, and of two answers
@@ -54,37 +53,37 @@ module _ {b : List ℕ} {i : ℕ} {q : Request} where
   pub is-atom : {x : ℕ} {v : Value} → Bytes b → getD b i 0 ≡ tagOf anAtom → x ≡ packed (dec16 b (i + 1), dec16 b (i + 1 + 2))
       → v ≡ atomAt q (x / 65536) (x % 65536) → Evaluated target b i q v (i + 5)
   is-atom {x = x} bs e f g = record {
-    value = as-atom _ e (rw (← add-assoc i 1 2) (g ∙ ap (λ y. atomAt q (y .0) (y .1)) its));
-    past = ends-atom e;
+    value = as-node anAtom _ e (λ r. rw (← add-assoc i 1 2) (g ∙ ap (λ y. atomAt q (y .0) (y .1)) its));
+    past = ends anAtom e refl;
   }
     where
       its : unpacked x ≡ (dec16 b (i + 1), dec16 b (i + 1 + 2))
       its = ap unpacked f ∙ unpacked-packed _ (dec16-range bs (i + 1 + 2))
 
   pub is-deny : {c : ℕ} → getD b i 0 ≡ tagOf aDeny → c ≡ code (single v0) → Evaluated policy b i q c (i + 1)
-  is-deny e f = record { value = as-deny _ e f; past = ends-deny e }
+  is-deny e f = record { value = as-node aDeny _ e f; past = ends aDeny e refl }
 
   pub is-allow : {c : ℕ} → getD b i 0 ≡ tagOf anAllow → c ≡ code (single v1) → Evaluated policy b i q c (i + 1)
-  is-allow e f = record { value = as-allow _ e f; past = ends-allow e }
+  is-allow e f = record { value = as-node anAllow _ e f; past = ends anAllow e refl }
 
   pub is-targeted : {v : Value} {m c n d : ℕ} → getD b i 0 ≡ tagOf aTargeted → Evaluated target b (i + 1) q v m → Evaluated policy b m q c n
       → d ≡ code (under v (setOf c)) → Evaluated policy b i q d n
   is-targeted e x y f = record {
-    value = as-targeted _ e (x .past)
+    value = as-two aTargeted refl _ e (x .past)
         (λ t p h g. f ∙ ap₂ (λ v z. code (under v z)) (x .value t h) (ap setOf (y .value p g) ∙ code-set (eval p q)));
-    past = ends-targeted e (x .past) (y .past);
+    past = ends aTargeted e (_, x .past, y .past);
   }
 
   module _ {s : Sort} {v w : Told s} {m : ℕ} where
     pub is-not : getD b i 0 ≡ tagOf (aNot s) → Evaluated s b (i + 1) q v m → w ≡ act notV s v → Evaluated s b i q w m
-    is-not e x f = record { value = as-not _ e (acted notV x f); past = ends-not e (x .past) }
+    is-not e x f = record { value = as-node (aNot s) _ e (acted notV x f); past = ends (aNot s) e (x .past) }
 
     pub is-default : getD b i 0 ≡ tagOf (aDefault s) → Evaluated s b (i + 1) q v m → w ≡ act defaultV s v → Evaluated s b i q w m
-    is-default e x f = record { value = as-default _ e (acted defaultV x f); past = ends-default e (x .past) }
+    is-default e x f = record { value = as-node (aDefault s) _ e (acted defaultV x f); past = ends (aDefault s) e (x .past) }
 
     pub is-and : {y : Told s} {n : ℕ} → getD b i 0 ≡ tagOf (anAnd s) → Evaluated s b (i + 1) q v m → Evaluated s b m q w n
         → y ≡ act2 andV s v w → Evaluated s b i q y n
     is-and e x y f = record {
-      value = as-and _ e (x .past) (λ t u h g. f ∙ ap₂ (act2 andV s) (x .value t h) (y .value u g) ∙ act2-told andV s (eval t q) (eval u q));
-      past = ends-and e (x .past) (y .past);
+      value = as-two (anAnd s) refl _ e (x .past) (λ t u h g. f ∙ ap₂ (act2 andV s) (x .value t h) (y .value u g) ∙ act2-told andV s (eval t q) (eval u q));
+      past = ends (anAnd s) e (_, x .past, y .past);
     }

@@ -10,6 +10,7 @@ pub mod RequestExact
 pub mod WriteLoop
 pub mod WorkedRequest
 pub mod Places
+pub mod Prefix
 pub mod PolicySteps
 pub mod PolicySeen
 pub mod PolicyComplete

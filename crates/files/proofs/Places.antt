@@ -1,13 +1,12 @@
 -- What stands at a place of the bytes: a first byte, what is behind it, the parts of an append.
 use Prim.Native.Nat.{ℕ, _+_, _<_}
 use mathlib.Core.Path.{_≡_, _∙_, ap}
-use mathlib.Core.List.{List, _∷_, _++_, append-assoc}
+use mathlib.Core.List.{List, [], _∷_, _++_, append-assoc}
 use native.Mathlib.Numerals.{add-one}
 use native.Mathlib.Omega.{arith}
 use lib.ListN.{length, getD, drop, length-drop}
 use lib.Seq.{drop-cons, drop-drop, drop-append-seam}
-use Rattle.ptacl.specs.Term.{atom}
-use Rattle.files.specs.Encoding.{enc}
+use Rattle.files.specs.Encoding.{big}
 use Rattle.files.specs.Refusal.{dec16}
 use Rattle.files.specs.Places.{At}
 use Rattle.files.proofs.BigEndian.{dec16-big, drop-big}
@@ -33,18 +32,15 @@ module _ {b : List ℕ} {i : ℕ} (xs ys : List ℕ) (h : At b i (xs ++ ys)) whe
 pub more : (b : List ℕ) (i : ℕ) → i < length b → drop i b ≡ getD b i 0 ∷ drop (i + 1) b
 more b i h = rw (add-one, ← drop-cons b i 0)
 
--- an atom's numbers
-module _ {b : List ℕ} {i : ℕ} (n v : ℕ) (h : At b i (enc (atom n v))) where
-  pub atom-room : i + 4 < length b
-  unfolding enc
-  atom-room = omega (arith, room (tail (tail (tail (tail h)))))
+-- the numbers of an atom whose byte stands before them
+module _ {b : List ℕ} (i n v : ℕ) (h : At b (i + 1) (big n (big v []))) where
+  pub pair-room : i + 4 < length b
+  pair-room = omega (arith, room (tail (tail (tail h))))
 
-  pub atom-name : dec16 b (i + 1) ≡ n
-  unfolding enc
-  atom-name = dec16-big b (i + 1) n _ (tail h .split)
+  pub pair-name : dec16 b (i + 1) ≡ n
+  pair-name = dec16-big b (i + 1) n _ (h .split)
 
-  pub atom-value : dec16 b (i + 3) ≡ v
-  unfolding enc
-  atom-value =
+  pub pair-value : dec16 b (i + 3) ≡ v
+  pair-value =
       let e : i + 3 ≡ i + 1 + 2 = omega arith in
-      rw e (dec16-big b (i + 1 + 2) v _ (drop-big b (i + 1) n _ (tail h .split)))
+      rw e (dec16-big b (i + 1 + 2) v _ (drop-big b (i + 1) n _ (h .split)))

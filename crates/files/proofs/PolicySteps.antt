@@ -1,16 +1,21 @@
--- What a head is, and that a scan takes one step at it.
-use Prim.Native.Nat.{ℕ, zero, suc, _-_, _≤_, _<_}
-use mathlib.Core.Path.{_≡_, refl, ap, subst, _∙_}
+-- What a head is; and that bytes are read as they are written.
+use Prim.Native.Nat.{ℕ, _+_, _≤_, _<_}
+use mathlib.Core.Path.{_≡_, refl, sym, ap, _∙_}
 use mathlib.Core.Bool.{Bool, true, false, cond}
 use mathlib.Core.List.{List, [], _∷_}
 use native.Mathlib.Omega.{arith}
-use native.Mathlib.Numerals.{sub-one}
 use lib.Dec.{ltb, eqb}
-use lib.ListN.{length, getD}
+use lib.ListN.{length, getD, drop}
 use borrow.Author.Tests.{ltb-true, eqb-true, eqb-false, lt-ltb, le-ltb, eq-eqb, ne-eqb}
-use Rattle.ptacl.specs.Term.{Sort, Term, Node, tagOf}
-use Rattle.files.specs.ReadPolicy.{Byte, tag, unknown, find, nodesOf, byteAt}
-use Rattle.files.specs.ReadPolicy.{limitOf, Head, node, stop, tagged, headAt, Scan, body, scan}
+use Rattle.ptacl.specs.Term.{Sort, target, policy, Node, anAtom, aDeny, anAllow, aTargeted, aNot, aDefault, anAnd, tagOf}
+use Rattle.files.specs.Encoding.{big, bytes, InRange, Bytes}
+use Rattle.files.specs.Refusal.{dec16}
+use Rattle.files.specs.Prefix.{node, stop, done, fault}
+use Rattle.files.specs.ReadPolicy.{Byte, tag, unknown, find, nodesOf, byteAt, limitOf, tagged, headAt, pairAt, inBytes}
+use Rattle.files.specs.Places.{At}
+use Rattle.files.proofs.BigEndian.{dec16-big, drop-big, dec16-range, big-dec16}
+use Rattle.files.proofs.Places.{room, head, tail, more}
+use Rattle.files.proofs.Prefix.{Told, ToldPair, Lawful, PairsTold}
 
 -- the four cases of a head
 module _ (most : ℕ) (b : List ℕ) {s : Sort} (left at nodes : ℕ) where
@@ -27,7 +32,7 @@ module _ (most : ℕ) (b : List ℕ) {s : Sort} (left at nodes : ℕ) where
     unfolding headAt
     head-limit l = simp (lt-ltb _ _ h, k, ne-eqb _ _ l)
 
-    pub head-node : limitOf most left nodes ≡ 0 → headAt most b s left at nodes ≡ node n
+    pub head-node : limitOf most left nodes ≡ 0 → headAt most b s left at nodes ≡ node n (at + 1)
     unfolding headAt
     head-node l = simp (lt-ltb _ _ h, k, eq-eqb _ _ l)
 
@@ -43,6 +48,10 @@ found {s} (m ∷ ns) b n e = go (eqb b (tagOf m)) refl (found ns b n) e
     go true p f e = eqb-true _ _ p ∙ ap (λ (k : Node s). tagOf k) (untag e)
     go false p f e = f e
 
+byte-found : (s : Sort) (b : ℕ) (n : Node s) → byteAt s b ≡ tag n → b ≡ tagOf n
+unfolding byteAt
+byte-found s = found (nodesOf s)
+
 -- the limits at a node are kept, or it is 6 or 7
 data Limits (most left nodes number : ℕ) : Type 0 where
   kept : number ≡ 0 → 1 ≤ left → nodes < most → Limits most left nodes number
@@ -57,50 +66,79 @@ limits most left nodes = go (eqb left 0) (ltb nodes most) refl refl
     go true true p q = simp (p, q) (passed (omega arith) (omega arith))
     go true false p q = simp (p, q) (passed (omega arith) (omega arith))
 
--- a head that is a node is within the limits; any other is one of 4 to 7 at a place of the file
-pub record Inside (most : ℕ) (b : List ℕ) {s : Sort} (left at nodes : ℕ) (n : Node s) : Type 0 where
-  pub inside : at < length b
-  pub deep : 1 ≤ left
-  pub few : nodes < most
-  pub is : getD b at 0 ≡ tagOf n
-
+-- a refusal is one of 4 to 7, at a place of the file
 pub record Faulty (b : List ℕ) (number place : ℕ) : Type 0 where
   pub low : 4 ≤ number
   pub high : number ≤ 7
   pub within : place ≤ length b
 
-module _ (most : ℕ) (b : List ℕ) (left at nodes : ℕ) where
-  abbrev pub Told : {s : Sort} → Head s → Type 0
-  Told (node n) = Inside most b left at nodes n
-  Told (stop number place) = Faulty b number place
+-- every node is known by its byte
+known : {s : Sort} (n : Node s) → byteAt s (tagOf n) ≡ tag n
+unfolding byteAt
+known anAtom = refl
+known aDeny = refl
+known anAllow = refl
+known aTargeted = refl
+known (aNot target) = refl
+known (aNot policy) = refl
+known (aDefault target) = refl
+known (aDefault policy) = refl
+known (anAnd target) = refl
+known (anAnd policy) = refl
 
-  pub told : {s : Sort} (h : Head s) → headAt most b s left at nodes ≡ h → Told h
-  unfolding headAt byteAt
-  told {s} h e = subst Told e (go (ltb at (length b)) (byteAt s (getD b at 0)) (limitOf most left nodes) refl refl (limits most left nodes))
+-- so a byte is that of one node of the sort
+pub same-node : {s : Sort} (m n : Node s) → tagOf m ≡ tagOf n → m ≡ n
+same-node {s} m n e = go (sym (known m) ∙ ap (byteAt s) e ∙ known n)
+  where
+    go : tag m ≡ tag n → m ≡ n
+    go e = cc
+
+module _ (most : ℕ) (b : List ℕ) where
+  head-told : (s : Sort) (left : ℕ) (end : Unit {0}) (at k : ℕ) → Told bytes most b (Faulty b) left end at k (headAt most b s left at k)
+  unfolding headAt
+  head-told s left end at k = go (ltb at (length b)) (byteAt s (getD b at 0)) (limitOf most left k) refl refl (limits most left k)
     where
-      go : (a : Bool) (x : Byte s) (l : ℕ) → ltb at (length b) ≡ a → byteAt s (getD b at 0) ≡ x → Limits most left nodes l
-          → Told (cond a (tagged l at x) (stop 4 (length b)))
-      go true (tag n) l p q (kept e d f) = rw e (record { inside = ltb-true _ _ p; deep = d; few = f; is = found (nodesOf s) _ n q })
+      go : (a : Bool) (x : Byte s) (l : ℕ) → ltb at (length b) ≡ a → byteAt s (getD b at 0) ≡ x → Limits most left k l
+          → Told bytes most b (Faulty b) left end at k (cond a (tagged l at x) (stop 4 (length b)))
+      go true (tag n) l p q (kept e d f) =
+          let i = ltb-true at (length b) p in
+          rw e (record {
+            bytes = more b at i ∙ ap (λ (x : ℕ). x ∷ drop (at + 1) b) (byte-found s _ n q);
+            inside = omega arith;
+            shallow = d;
+            few = f;
+          })
       go true (tag n) l p q (passed f g) =
           let i = ltb-true at (length b) p in
           rw (ne-eqb l 0 (λ e. omega arith)) (record { low = omega arith; high = omega arith; within = omega arith })
       go true unknown l p q o = let i = ltb-true at (length b) p in record { low = omega arith; high = omega arith; within = omega arith }
       go false x l p q o = record { low = omega arith; high = omega arith; within = omega arith }
 
--- with no depth left no head is a node, so that how terms below it are read does not matter
-same-stop : (b : List ℕ) (f g : (s : Sort) → ℕ → ℕ → Scan (Term s)) (at nodes : ℕ) {s : Sort} (h : Head s)
-    → ((n : Node s) → h ≡ node n → ⊥) → body b f at nodes h ≡ body b g at nodes h
-unfolding body
-same-stop b f g at nodes (node n) none = absurd (none n refl)
-same-stop b f g at nodes (stop number place) none = refl
+  head-reads : (s : Sort) (n : Node s) (left : ℕ) (end : Unit {0}) (at k : ℕ) → At b at (tagOf n ∷ []) → 1 ≤ left → k < most
+      → headAt most b s left at k ≡ node n (at + 1)
+  head-reads s n left end at k h l m =
+      let o : limitOf most left k ≡ 0 = simp (ne-eqb left 0 (λ e. omega arith), lt-ltb k most m) in
+      head-node most b left at k n (room h) (ap (byteAt s) (head h) ∙ known n) o
 
-module _ (most : ℕ) (b : List ℕ) where
-  step : (left : ℕ) (s : Sort) (at nodes : ℕ)
-      → scan most b left s at nodes ≡ body b (scan most b (left - 1)) at nodes (headAt most b s left at nodes)
-  unfolding scan
-  step zero s at nodes = same-stop b _ _ at nodes _ (λ n e. let w = told most b 0 at nodes (node n) e in omega arith)
-  step (suc left) s at nodes = rw (sub-one (suc left))
+  pair-reads : (n v : ℕ) (end : Unit {0}) (at k : ℕ) → Unit {0} → At b at (big n (big v [])) → pairAt b at k ≡ done (n, v) (at + 4) k
+  unfolding pairAt
+  pair-reads n v end at k u h =
+      let i : at + 3 < length b = omega (arith, room (tail (tail (tail h)))) in
+      rw (lt-ltb (at + 3) (length b) i, dec16-big b at n _ (h .split), dec16-big b (at + 2) v _ (drop-big b at n _ (h .split)))
 
-  pub scan-at : (left at nodes : ℕ) {s : Sort} (h : Head s) → headAt most b s left at nodes ≡ h
-      → scan most b left s at nodes ≡ body b (scan most b (left - 1)) at nodes h
-  scan-at left at nodes {s} h e = step left s at nodes ∙ ap (body b (scan most b (left - 1)) at nodes) e
+  pub byte-laws : Lawful (inBytes most b) most b (λ xs. Unit {0}) (Faulty b)
+  byte-laws = record { parts = λ xs ys u. (tt, tt); head-reads = head-reads; pair-reads = pair-reads; head-told = head-told }
+
+  pub pairs-told : Bytes b → PairsTold (inBytes most b) most b (Faulty b)
+  unfolding pairAt InRange
+  pairs-told bs end at k i = go (ltb (at + 3) (length b)) refl
+    where
+      go : (c : Bool) → ltb (at + 3) (length b) ≡ c
+          → ToldPair bytes most b (Faulty b) end at k (cond c (done (dec16 b at, dec16 b (at + 2)) (at + 4) k) (fault 4 (length b)))
+      go true e =
+          let h = ltb-true (at + 3) (length b) e in
+          let u : at + 2 + 2 ≡ at + 4 = omega arith in
+          let y = big-dec16 bs at (omega arith) in
+          let z = big-dec16 bs (at + 2) (omega arith) in
+          record { bytes = cc; inside = omega arith; counted = refl; range = (dec16-range bs at, dec16-range bs (at + 2), tt) }
+      go false e = record { low = omega arith; high = omega arith; within = omega arith }

@@ -1,131 +1,141 @@
--- For the passes over a file that was read: what a first byte tells of its term, of where that ends, and of the terms below it.
+-- For the passes over a file that was read: what a first byte tells of its term, of where that ends, and of the terms below it. Each is
+-- one law for every node, by the node's shape.
 use Prim.Native.Nat.{ℕ, _+_, _-_, _<_, _≤_}
-use mathlib.Core.Path.{_≡_, refl, sym, ap, _∙_}
-use mathlib.Core.List.{List, [], append-nil}
+use mathlib.Core.Path.{_≡_, refl, sym, ap, subst, _∙_}
+use mathlib.Core.List.{List, [], _∷_, append-nil}
 use native.Mathlib.Omega.{arith}
 use lib.ListN.{length, getD, drop, length-append}
-use Rattle.ptacl.specs.Term.{Sort, target, policy, Term, Target, Policy, atom, deny, allow, targeted, not, default, and, nodes}
-use Rattle.ptacl.specs.Term.{anAtom, aDeny, anAllow, aTargeted, aNot, aDefault, anAnd, tagOf}
-use Rattle.files.specs.Encoding.{enc, policyFile, framed, Bytes}
+use Rattle.ptacl.specs.Term.{Sort, target, policy, Term, Policy, nodes}
+use Rattle.ptacl.specs.Term.{Node, anAtom, aDeny, anAllow, aTargeted, aNot, aDefault, anAnd, tagOf, Shape, numbers, leaf, one, two, shape}
+use Rattle.ptacl.proofs.Shapes.{Case, by-shape}
+use Rattle.files.specs.Encoding.{bytes, enc, policyFile, framed, Bytes}
 use Rattle.files.specs.Refusal.{Read, accepted, refused, dec16}
 use Rattle.files.specs.ReadPolicy.{readPolicy}
 use Rattle.files.specs.Places.{At, Has}
 use Rattle.files.specs.Cases.{policyRead}
 use Rattle.files.specs.declared.policy.PolicyRead.{PolicyRead}
-use Rattle.files.proofs.Places.{room, head, tail, left, right, atom-room, atom-name, atom-value}
+use Rattle.files.proofs.Places.{room, head, tail, left, right, pair-room, pair-name, pair-value}
+use Rattle.files.proofs.Prefix.{Adds, adds}
+use Rattle.files.proofs.PolicySteps.{same-node}
 use Rattle.files.proofs.PolicyExact.{policy-exact}
-
--- what stands behind the first byte of a term, by that byte
-pub data View (b : List ℕ) (i : ℕ) : (s : Sort) → Term s → ℕ → Type 0 where
-  atom-at : {n v : ℕ} → i + 4 < length b → dec16 b (i + 1) ≡ n → dec16 b (i + 3) ≡ v → View b i target (atom n v) (tagOf anAtom)
-  deny-at : View b i policy deny (tagOf aDeny)
-  allow-at : View b i policy allow (tagOf anAllow)
-  targeted-at : {t : Target} {p : Policy} → At b (i + 1) (enc t) → At b (i + 1 + length (enc t)) (enc p)
-      → View b i policy (targeted t p) (tagOf aTargeted)
-  not-at : {s : Sort} {t : Term s} → At b (i + 1) (enc t) → View b i s (not t) (tagOf (aNot s))
-  default-at : {s : Sort} {t : Term s} → At b (i + 1) (enc t) → View b i s (default t) (tagOf (aDefault s))
-  and-at : {s : Sort} {t u : Term s} → At b (i + 1) (enc t) → At b (i + 1 + length (enc t)) (enc u)
-      → View b i s (and t u) (tagOf (anAnd s))
 
 -- every term that stands at i ends before m
 abbrev pub Ends : (s : Sort) → List ℕ → ℕ → ℕ → Type 0
 Ends s b i m = (t : Term s) → At b i (enc t) → m ≡ i + length (enc t)
 
+-- what stands behind a node's byte at i, where the term there is t
+abbrev Parts : (b : List ℕ) (i : ℕ) {s : Sort} → Shape s → Term s → Type 0
+Parts b i (numbers f) t = (i + 4 < length b) × (f (dec16 b (i + 1)) (dec16 b (i + 3)) ≡ t)
+Parts b i (leaf u) t = u ≡ t
+Parts b i {s} (one f) t = (u : Term s) × At b (i + 1) (enc u) × (f u ≡ t)
+Parts b i {s} (two r f) t = (u : Term r) × (w : Term s) × At b (i + 1) (enc u) × At b (i + 1 + length (enc u)) (enc w) × (f u w ≡ t)
+
+record View (b : List ℕ) (i : ℕ) {s : Sort} (t : Term s) : Type 0 where
+  node : Node s
+  is : getD b i 0 ≡ tagOf node
+  inside : i < length b
+  some : 1 ≤ nodes t
+  parts : Parts b i (shape node) t
+
+-- a property of the terms at i whose node has a shape, by what stands behind its byte
+abbrev pub Of : (b : List ℕ) (i : ℕ) {s : Sort} → (Term s → Type 0) → Shape s → Type 0
+Of b i P (numbers f) = i + 4 < length b → P (f (dec16 b (i + 1)) (dec16 b (i + 3)))
+Of b i P (leaf t) = P t
+Of b i {s} P (one f) = (t : Term s) → At b (i + 1) (enc t) → P (f t)
+Of b i {s} P (two r f) = (t : Term r) (u : Term s) → At b (i + 1) (enc t) → At b (i + 1 + length (enc t)) (enc u) → P (f t u)
+
 module _ {b : List ℕ} {i : ℕ} where
-  pub view : {s : Sort} (t : Term s) → At b i (enc t) → View b i s t (getD b i 0)
+  view : {s : Sort} (t : Term s) → At b i (enc t) → View b i t
   unfolding enc
-  view (atom n v) h = rw (head h) (atom-at (atom-room n v h) (atom-name n v h) (atom-value n v h))
-  view deny h = rw (head h) deny-at
-  view allow h = rw (head h) allow-at
-  view (targeted t p) h = rw (head h) (targeted-at (left (enc t) (enc p) (tail h)) (right (enc t) (enc p) (tail h)))
-  view (not t) h = rw (head h) (not-at (tail h))
-  view (default t) h = rw (head h) (default-at (tail h))
-  view (and t u) h = rw (head h) (and-at (left (enc t) (enc u) (tail h)) (right (enc t) (enc u) (tail h)))
-
-  -- a property of every term at i, by the byte there
-  pub as-atom : (P : Target → Type 0) → getD b i 0 ≡ tagOf anAtom → P (atom (dec16 b (i + 1)) (dec16 b (i + 3)))
-      → (t : Target) → At b i (enc t) → P t
-  as-atom P e f t h = go (rw e at (view t h))
+  view t = by-shape (λ s t. At b i (enc t) → View b i t) (λ s k. go k (shape k) refl (adds bytes k)) t
     where
-      go : {t : Target} → View b i target t (tagOf anAtom) → P t
-      go (atom-at r x y) = rw (← x, ← y) f
+      go : {s : Sort} (k : Node s) (g : Shape s) → shape k ≡ g → Adds bytes k g → Case (λ s t. At b i (enc t) → View b i t) g
+      go k (numbers f) e law = λ n v h.
+          let w = law n v tt in
+          let a = rw (w .0) at h in
+          record {
+            node = k;
+            is = head a;
+            inside = room a;
+            some = omega arith;
+            parts = rw e (pair-room i n v (tail a), rw (pair-name i n v (tail a), pair-value i n v (tail a)));
+          }
+      go k (leaf t) e law = λ h.
+          let w = law tt in
+          let a = rw (w .0) at h in
+          record { node = k; is = head a; inside = room a; some = omega arith; parts = rw e }
+      go k (one f) e law = λ t _ h.
+          let w = law t tt in
+          let a = rw (w .0) at h in
+          record { node = k; is = head a; inside = room a; some = omega arith; parts = rw e (t, tail a, refl) }
+      go k (two r f) e law = λ t u _ _ h.
+          let w = law t u tt in
+          let a = rw (w .0) at h in
+          record {
+            node = k;
+            is = head a;
+            inside = room a;
+            some = omega arith;
+            parts = rw e (t, u, left (enc t) (enc u) (tail a), right (enc t) (enc u) (tail a), refl);
+          }
 
-  pub as-deny : (P : Policy → Type 0) → getD b i 0 ≡ tagOf aDeny → P deny → (p : Policy) → At b i (enc p) → P p
-  as-deny P e f p h = go (rw e at (view p h))
+  -- it holds of every term at i, by the byte there
+  pub as-node : {s : Sort} (n : Node s) (P : Term s → Type 0) → getD b i 0 ≡ tagOf n → Of b i P (shape n) → (t : Term s) → At b i (enc t) → P t
+  as-node {s} n P e f t h =
+      let w = view t h in
+      go (shape n) f (subst (λ k. Parts b i (shape k) t) (same-node (w .node) n (sym (w .is) ∙ e)) (w .parts))
     where
-      go : {p : Policy} → View b i policy p (tagOf aDeny) → P p
-      go deny-at = f
+      go : (g : Shape s) → Of b i P g → Parts b i g t → P t
+      go (numbers k) f x = subst P (x .1) (f (x .0))
+      go (leaf u) f x = subst P x f
+      go (one k) f x = subst P (x .2) (f (x .0) (x .1))
+      go (two r k) f x = subst P (x .4) (f (x .0) (x .1) (x .2) (x .3))
 
-  pub as-allow : (P : Policy → Type 0) → getD b i 0 ≡ tagOf anAllow → P allow → (p : Policy) → At b i (enc p) → P p
-  as-allow P e f p h = go (rw e at (view p h))
-    where
-      go : {p : Policy} → View b i policy p (tagOf anAllow) → P p
-      go allow-at = f
+  -- where the first of two terms ends, the second begins
+  pub as-two : {s r : Sort} {f : Term r → Term s → Term s} {m : ℕ} (n : Node s) → shape n ≡ two r f → (P : Term s → Type 0)
+      → getD b i 0 ≡ tagOf n → Ends r b (i + 1) m
+      → ((t : Term r) (u : Term s) → At b (i + 1) (enc t) → At b m (enc u) → P (f t u)) → (t : Term s) → At b i (enc t) → P t
+  as-two n x P e d f = as-node n P e (rw x (λ t u h g. f t u h (rw (d t h) g)))
 
-  split-targeted : {p : Policy} → View b i policy p (tagOf aTargeted) → (P : Policy → Type 0)
-      → ((t : Target) (p : Policy) → At b (i + 1) (enc t) → At b (i + 1 + length (enc t)) (enc p) → P (targeted t p)) → P p
-  split-targeted (targeted-at {t = t} {p = p} h g) P f = f t p h g
+-- where a term ends, by what is below its node
+abbrev pub EndsBy : (b : List ℕ) (i m : ℕ) {s : Sort} → Shape s → Type 0
+EndsBy b i m (numbers f) = m ≡ i + 5
+EndsBy b i m (leaf t) = m ≡ i + 1
+EndsBy b i m {s} (one f) = Ends s b (i + 1) m
+EndsBy b i m {s} (two r f) = (l : ℕ) × Ends r b (i + 1) l × Ends s b l m
 
-  pub as-targeted : {m : ℕ} (P : Policy → Type 0) → getD b i 0 ≡ tagOf aTargeted → Ends target b (i + 1) m
-      → ((t : Target) (p : Policy) → At b (i + 1) (enc t) → At b m (enc p) → P (targeted t p)) → (p : Policy) → At b i (enc p) → P p
-  as-targeted P e d f p h = split-targeted (rw e at (view p h)) P (λ t p k g. f t p k (rw (d t k) g))
+-- the terms below the node of a term of at most so many nodes
+abbrev pub Below : (b : List ℕ) (i count : ℕ) {s : Sort} → Shape s → Type 0
+Below b i count (numbers f) = i + 4 < length b
+Below b i count (leaf t) = Unit {0}
+Below b i count {s} (one f) = Has s b (i + 1) (count - 1)
+Below b i count {s} (two r f) = Has r b (i + 1) (count - 1) × ((m : ℕ) → Ends r b (i + 1) m → Has s b m (count - 1))
 
-  pub as-not : {s : Sort} (P : Term s → Type 0) → getD b i 0 ≡ tagOf (aNot s)
-      → ((u : Term s) → At b (i + 1) (enc u) → P (not u)) → (t : Term s) → At b i (enc t) → P t
-  as-not {s} P e f t h = go s (rw e at (view t h)) P f
-    where
-      go : (s : Sort) {t : Term s} → View b i s t (tagOf (aNot s)) → (P : Term s → Type 0)
-          → ((u : Term s) → At b (i + 1) (enc u) → P (not u)) → P t
-      go target (not-at {t = t} h) P f = f t h
-      go policy (not-at {t = t} h) P f = f t h
-
-  pub as-default : {s : Sort} (P : Term s → Type 0) → getD b i 0 ≡ tagOf (aDefault s)
-      → ((u : Term s) → At b (i + 1) (enc u) → P (default u)) → (t : Term s) → At b i (enc t) → P t
-  as-default {s} P e f t h = go s (rw e at (view t h)) P f
-    where
-      go : (s : Sort) {t : Term s} → View b i s t (tagOf (aDefault s)) → (P : Term s → Type 0)
-          → ((u : Term s) → At b (i + 1) (enc u) → P (default u)) → P t
-      go target (default-at {t = t} h) P f = f t h
-      go policy (default-at {t = t} h) P f = f t h
-
-  split-and : (s : Sort) {t : Term s} → View b i s t (tagOf (anAnd s)) → (P : Term s → Type 0)
-      → ((u w : Term s) → At b (i + 1) (enc u) → At b (i + 1 + length (enc u)) (enc w) → P (and u w)) → P t
-  split-and target (and-at {t = t} {u = u} h g) P f = f t u h g
-  split-and policy (and-at {t = t} {u = u} h g) P f = f t u h g
-
-  pub as-and : {s : Sort} {m : ℕ} (P : Term s → Type 0) → getD b i 0 ≡ tagOf (anAnd s) → Ends s b (i + 1) m
-      → ((u w : Term s) → At b (i + 1) (enc u) → At b m (enc w) → P (and u w)) → (t : Term s) → At b i (enc t) → P t
-  as-and {s} P e d f t h = split-and s (rw e at (view t h)) P (λ u w k g. f u w k (rw (d u k) g))
-
-  -- where it ends
-  pub ends-atom : getD b i 0 ≡ tagOf anAtom → Ends target b i (i + 5)
+module _ {b : List ℕ} {i : ℕ} {s : Sort} (n : Node s) (e : getD b i 0 ≡ tagOf n) where
+  pub ends : {m : ℕ} → EndsBy b i m (shape n) → Ends s b i m
   unfolding enc
-  ends-atom e = as-atom _ e refl
+  ends {m} d = as-node n (λ t. m ≡ i + length (enc t)) e (go (shape n) (adds bytes n) d)
+    where
+      go : (g : Shape s) → Adds bytes n g → EndsBy b i m g → Of b i (λ t. m ≡ i + length (enc t)) g
+      go (numbers f) law d = λ r. let l = ap length (law (dec16 b (i + 1)) (dec16 b (i + 3)) tt .0) in omega arith
+      go (leaf t) law d = let l = ap length (law tt .0) in omega arith
+      go (one f) law d = λ t h. let l = ap length (law t tt .0) in omega (arith, d t h)
+      go (two r f) law d = λ t u h g.
+          let l = ap length (law t u tt .0) in
+          let k = d .1 t h in
+          omega (arith, d .2 u (rw k g), length-append (enc t) (enc u))
 
-  pub ends-deny : getD b i 0 ≡ tagOf aDeny → Ends policy b i (i + 1)
-  unfolding enc
-  ends-deny e = as-deny _ e refl
-
-  pub ends-allow : getD b i 0 ≡ tagOf anAllow → Ends policy b i (i + 1)
-  unfolding enc
-  ends-allow e = as-allow _ e refl
-
-  pub ends-targeted : {m n : ℕ} → getD b i 0 ≡ tagOf aTargeted → Ends target b (i + 1) m → Ends policy b m n → Ends policy b i n
-  unfolding enc
-  ends-targeted e d f = as-targeted _ e d (λ t p h g. omega (arith, d t h, f p g, length-append (enc t) (enc p)))
-
-  module _ {s : Sort} {m : ℕ} where
-    pub ends-not : getD b i 0 ≡ tagOf (aNot s) → Ends s b (i + 1) m → Ends s b i m
-    unfolding enc
-    ends-not e d = as-not _ e (λ t h. omega (arith, d t h))
-
-    pub ends-default : getD b i 0 ≡ tagOf (aDefault s) → Ends s b (i + 1) m → Ends s b i m
-    unfolding enc
-    ends-default e d = as-default _ e (λ t h. omega (arith, d t h))
-
-    pub ends-and : {n : ℕ} → getD b i 0 ≡ tagOf (anAnd s) → Ends s b (i + 1) m → Ends s b m n → Ends s b i n
-    unfolding enc
-    ends-and e d f = as-and _ e d (λ t u h g. omega (arith, d t h, f u g, length-append (enc t) (enc u)))
+  pub parts : {count : ℕ} → Has s b i count → Below b i count (shape n)
+  parts {count} p = as-node n (λ t. nodes t ≤ count → Below b i count (shape n)) e (go (shape n) (adds bytes n)) (p .term) (p .here) (p .few)
+    where
+      go : (g : Shape s) → Adds bytes n g → Of b i (λ t. nodes t ≤ count → Below b i count g) g
+      go (numbers f) law = λ r l. r
+      go (leaf t) law = λ l. tt
+      go (one f) law = λ t h l. record { term = t; here = h; few = omega (arith, law t tt .1) }
+      go (two r f) law = λ t u h g l. (
+        record { term = t; here = h; few = omega (arith, law t u tt .1) },
+        λ m d. record { term = u; here = rw (d t h) g; few = omega (arith, law t u tt .1) },
+      )
 
 -- the byte of a node that has a term of its own sort next
 pub data Inner (s : Sort) (k : ℕ) : Type 0 where
@@ -138,68 +148,34 @@ abbrev pub NotOuter : Sort → ℕ → Type 0
 NotOuter target k = k ≡ tagOf anAtom → ⊥
 NotOuter policy k = (k ≡ tagOf aDeny → ⊥) × (k ≡ tagOf anAllow → ⊥) × (k ≡ tagOf aTargeted → ⊥)
 
+inner : {s : Sort} {k : ℕ} (n : Node s) → k ≡ tagOf n → NotOuter s k → Inner s k
+inner anAtom e f = absurd (f e)
+inner aDeny e f = absurd (f .0 e)
+inner anAllow e f = absurd (f .1 e)
+inner aTargeted e f = absurd (f .2 e)
+inner (aNot s) e f = a-not e
+inner (aDefault s) e f = a-default e
+inner (anAnd s) e f = an-and e
+
 pub has-and-tag : {s : Sort} {k : ℕ} → Inner s k → (k ≡ tagOf (aNot s) → ⊥) → (k ≡ tagOf (aDefault s) → ⊥) → k ≡ tagOf (anAnd s)
 has-and-tag (a-not e) f g = absurd (f e)
 has-and-tag (a-default e) f g = absurd (g e)
 has-and-tag (an-and e) f g = e
 
-module _ {b : List ℕ} {i : ℕ} where
-  some : {s : Sort} (t : Term s) → At b i (enc t) → (i < length b) × (1 ≤ nodes t)
-  unfolding enc
-  some (atom n v) h = (room h, omega arith)
-  some deny h = (room h, omega arith)
-  some allow h = (room h, omega arith)
-  some (targeted t p) h = (room h, omega arith)
-  some (not t) h = (room h, omega arith)
-  some (default t) h = (room h, omega arith)
-  some (and t u) h = (room h, omega arith)
+module _ {b : List ℕ} {i : ℕ} {s : Sort} {count : ℕ} (p : Has s b i count) where
+  pub has-room : i < length b
+  has-room = view (p .term) (p .here) .inside
 
-  inner : {s : Sort} {t : Term s} {k : ℕ} → View b i s t k → NotOuter s k → Inner s k
-  inner (atom-at r x y) f = absurd (f refl)
-  inner deny-at f = absurd (f .0 refl)
-  inner allow-at f = absurd (f .1 refl)
-  inner (targeted-at h g) f = absurd (f .2 refl)
-  inner (not-at h) f = a-not refl
-  inner (default-at h) f = a-default refl
-  inner (and-at h g) f = an-and refl
+  pub has-left : 1 ≤ count
+  has-left = omega (arith, view (p .term) (p .here) .some, p .few)
 
-  module _ {s : Sort} {count : ℕ} (p : Has s b i count) where
-    below : {r : Sort} {m : ℕ} → ((t : Term s) → At b i (enc t) → nodes t ≤ count → Has r b m (count - 1)) → Has r b m (count - 1)
-    below f = f (p .term) (p .here) (p .few)
+  pub has-inner : NotOuter s (getD b i 0) → Inner s (getD b i 0)
+  has-inner = let w = view (p .term) (p .here) in inner (w .node) (w .is)
 
-    pub has-room : i < length b
-    has-room = some (p .term) (p .here) .0
-
-    pub has-left : 1 ≤ count
-    has-left = omega (arith, some (p .term) (p .here), p .few)
-
-    pub has-inner : NotOuter s (getD b i 0) → Inner s (getD b i 0)
-    has-inner = inner (view (p .term) (p .here))
-
-    pub has-first : Inner s (getD b i 0) → Has s b (i + 1) (count - 1)
-    has-first (a-not e) = below (as-not _ e (λ u h l. record { term = u; here = h; few = omega arith }))
-    has-first (a-default e) = below (as-default _ e (λ u h l. record { term = u; here = h; few = omega arith }))
-    has-first (an-and e) =
-        split-and s (rw e at (view (p .term) (p .here))) (λ t. nodes t ≤ count → Has s b (i + 1) (count - 1))
-        (λ u w h g l. record { term = u; here = h; few = omega arith }) (p .few)
-
-    pub has-second : {m : ℕ} → getD b i 0 ≡ tagOf (anAnd s) → Ends s b (i + 1) m → Has s b m (count - 1)
-    has-second e d = below (as-and _ e d (λ u w h g l. record { term = w; here = g; few = omega arith }))
-
-  pub has-atom : {count : ℕ} → Has target b i count → getD b i 0 ≡ tagOf anAtom → i + 4 < length b
-  has-atom p e = go (rw e at (view (p .term) (p .here)))
-    where
-      go : {t : Target} → View b i target t (tagOf anAtom) → i + 4 < length b
-      go (atom-at r x y) = r
-
-  module _ {count : ℕ} (p : Has policy b i count) (e : getD b i 0 ≡ tagOf aTargeted) where
-    pub has-target : Has target b (i + 1) (count - 1)
-    has-target =
-        split-targeted (rw e at (view (p .term) (p .here))) (λ t. nodes t ≤ count → Has target b (i + 1) (count - 1))
-        (λ t r h g l. record { term = t; here = h; few = omega arith }) (p .few)
-
-    pub has-body : {m : ℕ} → Ends target b (i + 1) m → Has policy b m (count - 1)
-    has-body d = below p (as-targeted _ e d (λ t r h g l. record { term = r; here = g; few = omega arith }))
+  pub has-first : Inner s (getD b i 0) → Has s b (i + 1) (count - 1)
+  has-first (a-not e) = parts (aNot s) e p
+  has-first (a-default e) = parts (aDefault s) e p
+  has-first (an-and e) = parts (anAnd s) e p .0
 
 -- what the code's answer for a file tells
 pub policy-accepted : (s : List ℕ) → policyRead (readPolicy s) ≡ PolicyRead.Accepted → (p : Policy) × (readPolicy s ≡ accepted p)

@@ -11,6 +11,7 @@ use Rattle.ptacl.specs.Request.{Pair}
 use Rattle.ptacl.specs.Term.{Sort, target, policy, Term, atom, deny, allow, targeted, not, default, and, atoms, without}
 use Rattle.ptacl.specs.Term.{Node, aDeny, anAllow, aTargeted, aNot, aDefault, anAnd, tagOf}
 use Rattle.files.specs.Encoding.{enc}
+use Rattle.files.specs.Prefix.{spell}
 use Rattle.files.specs.Refusal.{dec16}
 
 -- what the walk meets: an atom's pair, or the byte of another node
@@ -85,7 +86,7 @@ node : {k : ℕ} {s : List ℕ} {is : List Item} → 0x10 < k → Walks s is →
 node {k} l w = nodeNext (λ (e : k ≡ 0x10). omega arith) w
 
 pub walk-term : {s : Sort} (t : Term s) {r : List ℕ} {is : List Item} → Walks r is → Walks (enc t ++ r) (items t ++ is)
-unfolding enc
+unfolding enc spell
 walk-term (atom n v) w =
     let a : n / 256 * 256 + n % 256 ≡ n = omega arith in
     let b : v / 256 * 256 + v % 256 ≡ v = omega arith in

@@ -8,7 +8,8 @@ use borrow.Author.Tests.{lt-ltb}
 use Rattle.ptacl.specs.Term.{Policy, deny, allow, not, and}
 use Rattle.files.specs.Encoding.{enc, depth, framed, policyFile}
 use Rattle.files.specs.Refusal.{accepted, refused, unframed}
-use Rattle.files.specs.ReadPolicy.{byteAt, headAt, scanAtom, body, scan, finish, readPolicy}
+use Rattle.files.specs.Prefix.{spell, below, body, scan}
+use Rattle.files.specs.ReadPolicy.{byteAt, headAt, pairAt, finish, readPolicy}
 use Rattle.files.specs.Places.{At}
 use Rattle.files.proofs.Framing.{unframed-whole}
 use Rattle.files.proofs.PolicyComplete.{complete}
@@ -28,15 +29,15 @@ two-bytes x y = refl
 
 -- an empty body is 4 at 3; an atom that is cut is 4 at the file's length; a policy's tag where a target is due is 5 at the tag
 pub empty-body : readPolicy (1 ∷ 0 ∷ 0 ∷ []) ≡ refused 4 3
-unfolding readPolicy unframed scan body headAt byteAt scanAtom
+unfolding readPolicy unframed scan body below headAt byteAt pairAt
 empty-body = refl
 
 pub cut-atom : readPolicy (1 ∷ 0 ∷ 5 ∷ 0x22 ∷ 0x10 ∷ 0 ∷ 1 ∷ 0 ∷ []) ≡ refused 4 8
-unfolding readPolicy unframed scan body headAt byteAt scanAtom
+unfolding readPolicy unframed scan body below headAt byteAt pairAt
 cut-atom = refl
 
 pub wrong-sort : readPolicy (1 ∷ 0 ∷ 2 ∷ 0x22 ∷ 0x20 ∷ []) ≡ refused 5 4
-unfolding readPolicy unframed scan body headAt byteAt scanAtom
+unfolding readPolicy unframed scan body below headAt byteAt pairAt
 wrong-sort = refl
 
 -- 31 policy nots over allow are read, 32 are refused 6 at 35
@@ -45,11 +46,11 @@ nots zero p = p
 nots (suc n) p = not (nots n p)
 
 pub depth-32 : readPolicy (1 ∷ 0 ∷ 32 ∷ (replicate 31 0x23 ++ (0x21 ∷ []))) ≡ accepted (nots 31 allow)
-unfolding readPolicy unframed scan body headAt byteAt scanAtom
+unfolding readPolicy unframed scan body below headAt byteAt pairAt
 depth-32 = refl
 
 pub depth-33 : readPolicy (1 ∷ 0 ∷ 33 ∷ (replicate 32 0x23 ++ (0x21 ∷ []))) ≡ refused 6 35
-unfolding readPolicy unframed scan body headAt byteAt scanAtom
+unfolding readPolicy unframed scan body below headAt byteAt pairAt
 depth-33 = refl
 
 -- 255 nodes are read, a 256th is 7 at its tag, but 6 where it is at depth 33 too
@@ -58,20 +59,20 @@ tree zero = allow
 tree (suc n) = and (tree n) (tree n)
 
 pub nodes-255 : readPolicy (policyFile (tree 7)) ≡ accepted (tree 7)
-unfolding readPolicy unframed scan body headAt byteAt scanAtom policyFile framed enc
+unfolding readPolicy unframed scan body below headAt byteAt pairAt policyFile framed enc spell
 nodes-255 = refl
 
 pub nodes-256 : readPolicy (policyFile (not (tree 7))) ≡ refused 7 258
-unfolding readPolicy unframed scan body headAt byteAt scanAtom policyFile framed enc
+unfolding readPolicy unframed scan body below headAt byteAt pairAt policyFile framed enc spell
 nodes-256 = refl
 
 pub both-limits : readPolicy (policyFile (and (and (tree 6) (and (tree 5) (tree 4))) (nots 31 allow))) ≡ refused 6 258
-unfolding readPolicy unframed scan body headAt byteAt scanAtom policyFile framed enc
+unfolding readPolicy unframed scan body below headAt byteAt pairAt policyFile framed enc spell
 both-limits = refl
 
 -- the longest file that a length can state is still refused for what is met first
 pub longest-file : (rest : List ℕ) → length rest ≡ 65534 → readPolicy (1 ∷ 255 ∷ 255 ∷ 0x20 ∷ rest) ≡ refused 8 4
-unfolding readPolicy enc depth
+unfolding readPolicy enc spell depth
 longest-file rest e =
     let s : List ℕ = 1 ∷ 255 ∷ 255 ∷ 0x20 ∷ rest in
     let h : At s 3 (enc deny) = record { rest = rest; split = refl } in

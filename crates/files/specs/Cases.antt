@@ -1,10 +1,11 @@
 -- The enums of the code, by cases: what of the definitions each stands for.
 use Rattle.ptacl.specs.Request.{Request}
-use Rattle.ptacl.specs.Term.{Sort, target, policy, Policy, Node, anAtom, aDeny, anAllow, aTargeted, aNot, aDefault, anAnd}
+use Rattle.ptacl.specs.Term.{Sort, target, policy, Policy, Shape, numbers, leaf, one, two, shape}
 use Rattle.files.specs.Refusal.{Read, accepted, refused}
-use Rattle.files.specs.ReadPolicy.{Byte, tag, unknown, Head, node, stop, Scan, done, fault}
+use Rattle.files.specs.Prefix.{Head, node, stop, Scan, done, fault}
+use Rattle.files.specs.ReadPolicy.{Byte, tag, unknown}
 use Rattle.files.specs.declared.policy.Sort.{Sort as SortC}
-use Rattle.files.specs.declared.policy.Tag.{Tag}
+use Rattle.files.specs.declared.policy.Shape.{Shape as ShapeC}
 use Rattle.files.specs.declared.policy.Byte.{Byte as ByteC}
 use Rattle.files.specs.declared.policy.Head.{Head as HeadC}
 use Rattle.files.specs.declared.policy.Scanned.{Scanned}
@@ -16,21 +17,22 @@ abbrev pub sortOf : SortC → Sort
 sortOf SortC.Target = target
 sortOf SortC.Policy = policy
 
-abbrev pub tagName : {s : Sort} → Node s → Tag
-tagName anAtom = Tag.Atom
-tagName aDeny = Tag.Deny
-tagName anAllow = Tag.Allow
-tagName aTargeted = Tag.Targeted
-tagName (aNot s) = Tag.Not
-tagName (aDefault s) = Tag.Default
-tagName (anAnd s) = Tag.And
+abbrev pub sortName : Sort → SortC
+sortName target = SortC.Target
+sortName policy = SortC.Policy
+
+abbrev pub shapeName : {s : Sort} → Shape s → ShapeC
+shapeName (numbers f) = ShapeC.Numbers
+shapeName (leaf t) = ShapeC.Leaf
+shapeName (one f) = ShapeC.One
+shapeName (two r f) = ShapeC.Two (sortName r)
 
 abbrev pub byteOf : {s : Sort} → Byte s → ByteC
-byteOf (tag n) = ByteC.Tag (tagName n)
+byteOf (tag n) = ByteC.Tag (shapeName (shape n))
 byteOf unknown = ByteC.Unknown
 
 abbrev pub headOf : {s : Sort} → Head s → HeadC
-headOf (node n) = HeadC.Node (tagName n)
+headOf (node n next) = HeadC.Node (shapeName (shape n)) next
 headOf (stop number place) = HeadC.Stop number place
 
 -- all of a scan but the term

@@ -2,34 +2,26 @@
 use Prim.Native.Nat.{ℕ, _+_, _/_, _%_, _<_, _≤_, max}
 use mathlib.Core.Path.{_≡_}
 use mathlib.Core.Bool.{true}
-use mathlib.Core.List.{List, [], _∷_, _++_}
+use mathlib.Core.List.{List, [], _∷_}
 use lib.ListN.{length, getD}
 use Rattle.ptacl.specs.Request.{Pair, Request, ascending}
-use Rattle.ptacl.specs.Term.{Sort, Term, Policy, atom, deny, allow, targeted, not, default, and, anAtom, aDeny, anAllow, aTargeted, aNot, aDefault, anAnd, tagOf, nodes, atoms}
+use Rattle.ptacl.specs.Term.{Sort, Term, Policy, tagOf, fold, nodes, atoms}
+use Rattle.files.specs.Prefix.{Form, spell}
 
 -- a number as two bytes, big-endian, before the rest
 abbrev pub big : ℕ → List ℕ → List ℕ
 big n rest = n / 256 ∷ n % 256 ∷ rest
 
--- a term in prefix order
+-- a term in prefix order: a node is one byte, an atom's numbers two bytes each
+abbrev pub bytes : Form (Unit {0})
+bytes = record { between = tt; mark = λ s k e. tagOf k ∷ []; pair = λ n v e. big n (big v []) }
+
 unfoldable pub enc : {s : Sort} → Term s → List ℕ
-enc (atom n v) = tagOf anAtom ∷ big n (big v [])
-enc deny = tagOf aDeny ∷ []
-enc allow = tagOf anAllow ∷ []
-enc (targeted t p) = tagOf aTargeted ∷ (enc t ++ enc p)
-enc (not {s = s} t) = tagOf (aNot s) ∷ enc t
-enc (default {s = s} t) = tagOf (aDefault s) ∷ enc t
-enc (and {s = s} t u) = tagOf (anAnd s) ∷ (enc t ++ enc u)
+enc t = spell bytes tt t
 
 -- the root stands at depth 1, a target below a targeted node one deeper than it
 unfoldable pub depth : {s : Sort} → Term s → ℕ
-depth (atom n v) = 1
-depth deny = 1
-depth allow = 1
-depth (targeted t p) = 1 + max (depth t) (depth p)
-depth (not t) = 1 + depth t
-depth (default t) = 1 + depth t
-depth (and t u) = 1 + max (depth t) (depth u)
+depth t = fold (record { numbers = λ n v. 1; leaf = λ s k. 1; one = λ s k d. 1 + d; two = λ s k c d. 1 + max c d }) t
 
 -- names and values are numbers from 0 to 65,535
 unfoldable pub InRange : List Pair → Type 0

@@ -1,3 +1,4 @@
+pub mod Prefix
 pub mod Encoding
 pub mod Refusal
 pub mod ReadPolicy

@@ -1,8 +1,10 @@
 // Reading a policy file.
 ghost use mathlib.Core.Path.{_≡_};
-ghost use Prim.Native.Nat.{_<_};
+ghost use Prim.Native.Nat.{_<_, _≤_};
+ghost use lib.ListN.{length};
 ghost use Rattle.ptacl.specs.Term.{target, policy};
-ghost use Rattle.files.specs.ReadPolicy.{byteAt, limitOf, headAt, scanAtom, scan, readPolicy};
+ghost use Rattle.files.specs.Prefix.{scan};
+ghost use Rattle.files.specs.ReadPolicy.{byteAt, limitOf, headAt, pairAt, inBytes, readPolicy};
 ghost use Rattle.files.specs.Cases.{sortOf, byteOf, headOf, seen, policyRead};
 use crate::frame;
 use crate::frame::Frame;
@@ -12,25 +14,23 @@ pub enum Sort {
     Policy,
 }
 
-pub enum Tag {
-    Atom,
-    Deny,
-    Allow,
-    Targeted,
-    Not,
-    Default,
-    And,
+// What is below a node: an atom's numbers, nothing, a term of its own sort, or two terms and the sort of the first.
+pub enum Shape {
+    Numbers,
+    Leaf,
+    One,
+    Two(Sort),
 }
 
 // What a byte is where a node of a sort is due.
 pub enum Byte {
-    Tag(Tag),
+    Tag(Shape),
     Unknown,
 }
 
-// What stands where a node is due: a node within the limits, or a refusal.
+// What stands where a node is due: a node within the limits and the place behind its tag, or a refusal.
 pub enum Head {
-    Node(Tag),
+    Node { shape: Shape, next: usize },
     Stop { number: u8, place: usize },
 }
 
@@ -49,10 +49,10 @@ fn target_byte(b: u8) -> Byte
     ensures { λ r. ⌜ r ≡ byteOf (byteAt target b) ⌝ }
 {
     match b {
-        0x10 => Byte::Tag(Tag::Atom),
-        0x11 => Byte::Tag(Tag::Not),
-        0x12 => Byte::Tag(Tag::Default),
-        0x13 => Byte::Tag(Tag::And),
+        0x10 => Byte::Tag(Shape::Numbers),
+        0x11 => Byte::Tag(Shape::One),
+        0x12 => Byte::Tag(Shape::One),
+        0x13 => Byte::Tag(Shape::Two(Sort::Target)),
         _ => Byte::Unknown,
     }
 }
@@ -61,12 +61,12 @@ fn policy_byte(b: u8) -> Byte
     ensures { λ r. ⌜ r ≡ byteOf (byteAt policy b) ⌝ }
 {
     match b {
-        0x20 => Byte::Tag(Tag::Deny),
-        0x21 => Byte::Tag(Tag::Allow),
-        0x22 => Byte::Tag(Tag::Targeted),
-        0x23 => Byte::Tag(Tag::Not),
-        0x24 => Byte::Tag(Tag::Default),
-        0x25 => Byte::Tag(Tag::And),
+        0x20 => Byte::Tag(Shape::Leaf),
+        0x21 => Byte::Tag(Shape::Leaf),
+        0x22 => Byte::Tag(Shape::Two(Sort::Target)),
+        0x23 => Byte::Tag(Shape::One),
+        0x24 => Byte::Tag(Shape::One),
+        0x25 => Byte::Tag(Shape::Two(Sort::Policy)),
         _ => Byte::Unknown,
     }
 }
@@ -103,10 +103,13 @@ fn head_at(file: &[u8], sort: Sort, left: usize, at: usize, nodes: usize) -> Hea
         };
     }
     match byte_at(sort, file[at]) {
-        Byte::Tag(tag) => {
+        Byte::Tag(shape) => {
             let number = limit(left, nodes);
             if number == 0 {
-                Head::Node(tag)
+                Head::Node {
+                    shape,
+                    next: at + 1,
+                }
             } else {
                 Head::Stop { number, place: at }
             }
@@ -118,59 +121,42 @@ fn head_at(file: &[u8], sort: Sort, left: usize, at: usize, nodes: usize) -> Hea
     }
 }
 
-// An atom whose tag stands at `at`: four more bytes, or 4 at the end.
-fn read_atom(file: &[u8], at: usize, nodes: usize) -> Scanned
-    requires { ⌜ nodes < 255 ⌝ }
-    ensures { λ r. ⌜ r ≡ seen (scanAtom (now (file .entry)) at nodes) ⌝ }
+// An atom's four bytes at `at`, with `nodes` nodes up to there; or 4 at the end.
+fn read_numbers(file: &[u8], at: usize, nodes: usize) -> Scanned
+    requires { ⌜ at ≤ length (now file) ⌝ }
+    ensures { λ r. ⌜ r ≡ seen (pairAt (now (file .entry)) at nodes) ⌝ }
 {
     let len = file.len();
-    if at < len {
-        if 4 < len - at {
-            return Scanned::Done {
-                next: at + 5,
-                nodes: nodes + 1,
-            };
-        }
+    if len - at < 4 {
+        return Scanned::Fault {
+            number: 4,
+            place: len,
+        };
     }
-    Scanned::Fault {
-        number: 4,
-        place: len,
+    Scanned::Done {
+        next: at + 4,
+        nodes,
     }
 }
 
 // A term at `at`, with `left` of the depth left and `nodes` nodes before it.
 fn read_term(file: &[u8], sort: Sort, left: usize, at: usize, nodes: usize) -> Scanned
-    ensures { λ r. ⌜ r ≡ seen (scan 255 (now (file .entry)) left (sortOf sort) at nodes) ⌝ }
+    ensures { λ r. ⌜ r ≡ seen (scan (inBytes 255 (now (file .entry))) left (sortOf sort) tt at nodes) ⌝ }
 {
     match head_at(file, sort, left, at, nodes) {
         Head::Stop { number, place } => Scanned::Fault { number, place },
-        Head::Node(tag) => match tag {
-            Tag::Atom => read_atom(file, at, nodes),
-            Tag::Deny => Scanned::Done {
-                next: at + 1,
-                nodes: nodes + 1,
-            },
-            Tag::Allow => Scanned::Done {
-                next: at + 1,
-                nodes: nodes + 1,
-            },
-            Tag::Targeted => match read_term(file, Sort::Target, left - 1, at + 1, nodes + 1) {
-                Scanned::Done { next, nodes: k } => read_term(
-                    file,
-                    Sort::Policy,
-                    left - 1,
-                    next,
-                    k,
-                ),
-                Scanned::Fault { number, place } => Scanned::Fault { number, place },
-            },
-            Tag::Not => read_term(file, sort, left - 1, at + 1, nodes + 1),
-            Tag::Default => read_term(file, sort, left - 1, at + 1, nodes + 1),
-            Tag::And => match read_term(file, sort, left - 1, at + 1, nodes + 1) {
-                Scanned::Done { next, nodes: k } => read_term(file, sort, left - 1, next, k),
-                Scanned::Fault { number, place } => Scanned::Fault { number, place },
-            },
-        },
+        Head::Node { shape, next } => {
+            let nodes = nodes + 1;
+            match shape {
+                Shape::Numbers => read_numbers(file, next, nodes),
+                Shape::Leaf => Scanned::Done { next, nodes },
+                Shape::One => read_term(file, sort, left - 1, next, nodes),
+                Shape::Two(first) => match read_term(file, first, left - 1, next, nodes) {
+                    Scanned::Done { next, nodes } => read_term(file, sort, left - 1, next, nodes),
+                    Scanned::Fault { number, place } => Scanned::Fault { number, place },
+                },
+            }
+        }
     }
 }
 

@@ -1,3 +1,4 @@
+pub mod Shapes
 pub mod Bools
 pub mod Finite
 pub mod Codes

@@ -9,7 +9,8 @@ use Rattle.ptacl.proofs.Pairs.{pairsOf}
 use Rattle.ptacl.proofs.Worked.{Row, Right, AllRight, Verdict, resistant, exposedAt, table, worked}
 use Rattle.files.specs.Encoding.{framed, pairBytes, requestFile}
 use Rattle.files.specs.Refusal.{Read, accepted, unframed}
-use Rattle.files.specs.ReadPolicy.{byteAt, headAt, scanAtom, body, scan, readPolicy}
+use Rattle.files.specs.Prefix.{below, body, scan}
+use Rattle.files.specs.ReadPolicy.{byteAt, headAt, pairAt, readPolicy}
 use Rattle.search.specs.Found.{twoFiles, exposureFiles}
 
 -- A to F and deny, as document 01 writes them
@@ -46,7 +47,7 @@ pub record FromBodies : Type 0 where
   pub written : map frontOf table ≡ fronts
 
 pub from-bodies : FromBodies
-unfolding readPolicy unframed scan body headAt byteAt scanAtom twoFiles requestFile framed pairBytes
+unfolding readPolicy unframed scan body below headAt byteAt pairAt twoFiles requestFile framed pairBytes
 from-bodies = record { read = refl; right = worked; written = refl }
 
 -- a policy with one atom for each of so many names

@@ -3,7 +3,8 @@ use Prim.Native.Nat.{ℕ, _<_}
 use native.Mathlib.Omega.{arith}
 use borrow.Fn.Kinds.{In}
 use borrow.Fn.PlainCycle.{Measures, is, falls, and}
-use Rattle.files.proofs.View.{has-room, has-left, has-first, has-second, a-default, an-and}
+use Rattle.ptacl.specs.Term.{policy, anAnd}
+use Rattle.files.proofs.View.{parts, has-room, has-left, has-first, a-default, an-and}
 use Rattle.certify.proofs.Laws.{certified-here, certified-default, certified-and, certified-none}
 use Rattle.certify.proofs.certificate_at.Reads as certificate-at
 use Rattle.certify.proofs.certificate_at.Kinds as kinds
@@ -68,10 +69,7 @@ module _ (t : ℕ) where
   certificate-at-requires-3 : lts.Need-certificate-at-requires-3 (cs t) (at t) certificate-at.Post
   certificate-at-requires-3 c κs = (
     omega (arith, has-left (c .before .before .before .before .before .before .before .pre .1)),
-    has-second
-        (c .before .before .before .before .before .before .before .pre .1)
-        (c .before .match .keys2)
-        (c .certificate-at2 .ensures .behind .past),
+    parts (anAnd policy) (c .before .match .keys2) (c .before .before .before .before .before .before .before .pre .1) .1 _ (c .certificate-at2 .ensures .behind .past),
   )
 
   given-requires-2 : lts.Need-given-requires-2 (cs t) (at t) certificate-at.Post

@@ -5,9 +5,9 @@ use native.Mathlib.Omega.{arith}
 use lib.ListN.{getD}
 use borrow.Fn.Kinds.{In}
 use borrow.Fn.PlainCycle.{Measures, is, falls, and}
-use Rattle.ptacl.specs.Term.{policy, anAnd, tagOf}
-use Rattle.files.proofs.View.{has-room, has-left, has-target, has-body, has-inner, has-and-tag, has-first, has-second, a-not, a-default, an-and}
-use Rattle.certify.proofs.Laws.{judged-deny, judged-allow, judged-targeted, judged-not, judged-default, judged-and}
+use Rattle.ptacl.specs.Term.{policy, aDeny, anAllow, aTargeted, aNot, aDefault, anAnd, tagOf}
+use Rattle.files.proofs.View.{parts, has-room, has-left, has-inner, has-and-tag, has-first, a-not, a-default, an-and}
+use Rattle.certify.proofs.Laws.{judged-leaf, judged-one, judged-second, judged-two}
 use Rattle.certify.proofs.never_allows.Reads as never-allows
 use Rattle.certify.proofs.never_allows.Kinds as allows-kinds
 use Rattle.certify.proofs.+never_allows+never_denies.Lts-never_allows as never-allows-lts
@@ -66,7 +66,7 @@ module _ (t : ℕ) where
   allows-sub-skip-target c = has-left (c .before .before .before .pre .1)
 
   allows-skip-target-requires : never-allows-lts.Need-skip-target-requires (allows-cs t) (allows-at t) never-allows.Post
-  allows-skip-target-requires c κs = has-target (c .before .before .before .pre .1) (c .match .keys3)
+  allows-skip-target-requires c κs = parts aTargeted (c .match .keys3) (c .before .before .before .pre .1) .0
 
   allows-sub-never-allows : never-allows-lts.Need-sub-never-allows (allows-cs t) (allows-at t) never-allows.Post
   allows-sub-never-allows c = has-left (c .before .before .before .before .pre .1)
@@ -74,7 +74,7 @@ module _ (t : ℕ) where
   allows-never-allows-requires : never-allows-lts.Need-never-allows-requires (allows-cs t) (allows-at t) never-allows.Post
   allows-never-allows-requires c κs = (
     omega (arith, has-left (c .before .before .before .before .pre .1)),
-    has-body (c .before .before .before .before .pre .1) (c .before .match .keys3) (c .skip-target .ensures .past),
+    parts aTargeted (c .before .match .keys3) (c .before .before .before .before .pre .1) .1 _ (c .skip-target .ensures .past),
   )
 
   allows-add-never-denies : never-allows-lts.Need-add-never-denies (allows-cs t) (allows-at t) never-allows.Post
@@ -119,35 +119,35 @@ module _ (t : ℕ) where
   allows-never-allows-requires-4 : never-allows-lts.Need-never-allows-requires-4 (allows-cs t) (allows-at t) never-allows.Post
   allows-never-allows-requires-4 c κs = (
     omega (arith, has-left (c .before .before .before .before .pre .1)),
-    has-second (c .before .before .before .before .pre .1) (allows-and (c .before)) (c .never-allows3 .ensures .behind .past),
+    parts (anAnd policy) (allows-and (c .before)) (c .before .before .before .before .pre .1) .1 _ (c .never-allows3 .ensures .behind .past),
   )
 
   allows-returns : never-allows-lts.Need-returns (allows-cs t) (allows-at t) never-allows.Post
-  allows-returns c = judged-and (allows-and (c .before .before .before))
+  allows-returns c = judged-two (anAnd policy) refl (allows-and (c .before .before .before))
       (c .before .before .never-allows3 .ensures)
       (c .before .never-allows4 .ensures)
       (λ _ _ e f. rw (← e, c .if1 .taken))
 
   allows-returns-2 : never-allows-lts.Need-returns-2 (allows-cs t) (allows-at t) never-allows.Post
-  allows-returns-2 c = judged-deny (c .match .keys1) refl
+  allows-returns-2 c = judged-leaf aDeny refl (c .match .keys1) refl
 
   allows-returns-3 : never-allows-lts.Need-returns-3 (allows-cs t) (allows-at t) never-allows.Post
-  allows-returns-3 c = judged-allow (c .match .keys2) refl
+  allows-returns-3 c = judged-leaf anAllow refl (c .match .keys2) refl
 
   allows-returns-4 : never-allows-lts.Need-returns-4 (allows-cs t) (allows-at t) never-allows.Post
-  allows-returns-4 c = judged-targeted (c .before .before .match .keys3)
+  allows-returns-4 c = judged-second aTargeted refl (c .before .before .match .keys3)
       (c .before .skip-target .ensures)
       (c .never-allows .ensures)
       (λ _ _ e. e)
 
   allows-returns-5 : never-allows-lts.Need-returns-5 (allows-cs t) (allows-at t) never-allows.Post
-  allows-returns-5 c = judged-not (c .before .match .keys4) (c .never-denies .ensures) (λ _ e. e)
+  allows-returns-5 c = judged-one (aNot policy) refl (c .before .match .keys4) (c .never-denies .ensures) (λ _ e. e)
 
   allows-returns-6 : never-allows-lts.Need-returns-6 (allows-cs t) (allows-at t) never-allows.Post
-  allows-returns-6 c = judged-default (c .before .match .keys5) (c .never-allows2 .ensures) (λ _ e. e)
+  allows-returns-6 c = judged-one (aDefault policy) refl (c .before .match .keys5) (c .never-allows2 .ensures) (λ _ e. e)
 
   allows-returns-7 : never-allows-lts.Need-returns-7 (allows-cs t) (allows-at t) never-allows.Post
-  allows-returns-7 c = judged-and (allows-and (c .before .before .before))
+  allows-returns-7 c = judged-two (anAnd policy) refl (allows-and (c .before .before .before))
       (c .before .before .never-allows3 .ensures)
       (c .before .never-allows4 .ensures)
       (λ _ _ e f. rw (← e, c .if1 .left) f)
@@ -175,7 +175,7 @@ module _ (t : ℕ) where
   denies-sub-skip-target c = has-left (c .before .before .before .pre .1)
 
   denies-skip-target-requires : never-denies-lts.Need-skip-target-requires (denies-cs t) (denies-at t) never-denies.Post
-  denies-skip-target-requires c κs = has-target (c .before .before .before .pre .1) (c .match .keys3)
+  denies-skip-target-requires c κs = parts aTargeted (c .match .keys3) (c .before .before .before .pre .1) .0
 
   denies-sub-never-denies : never-denies-lts.Need-sub-never-denies (denies-cs t) (denies-at t) never-denies.Post
   denies-sub-never-denies c = has-left (c .before .before .before .before .pre .1)
@@ -183,7 +183,7 @@ module _ (t : ℕ) where
   denies-never-denies-requires : never-denies-lts.Need-never-denies-requires (denies-cs t) (denies-at t) never-denies.Post
   denies-never-denies-requires c κs = (
     omega (arith, has-left (c .before .before .before .before .pre .1)),
-    has-body (c .before .before .before .before .pre .1) (c .before .match .keys3) (c .skip-target .ensures .past),
+    parts aTargeted (c .before .match .keys3) (c .before .before .before .before .pre .1) .1 _ (c .skip-target .ensures .past),
   )
 
   denies-add-never-allows : never-denies-lts.Need-add-never-allows (denies-cs t) (denies-at t) never-denies.Post
@@ -228,35 +228,35 @@ module _ (t : ℕ) where
   denies-never-denies-requires-4 : never-denies-lts.Need-never-denies-requires-4 (denies-cs t) (denies-at t) never-denies.Post
   denies-never-denies-requires-4 c κs = (
     omega (arith, has-left (c .before .before .before .before .pre .1)),
-    has-second (c .before .before .before .before .pre .1) (denies-and (c .before)) (c .never-denies3 .ensures .behind .past),
+    parts (anAnd policy) (denies-and (c .before)) (c .before .before .before .before .pre .1) .1 _ (c .never-denies3 .ensures .behind .past),
   )
 
   denies-returns : never-denies-lts.Need-returns (denies-cs t) (denies-at t) never-denies.Post
-  denies-returns c = judged-and (denies-and (c .before .before .before))
+  denies-returns c = judged-two (anAnd policy) refl (denies-and (c .before .before .before))
       (c .before .before .never-denies3 .ensures)
       (c .before .never-denies4 .ensures)
       (λ _ _ e f. rw (← e, c .if1 .taken) f)
 
   denies-returns-2 : never-denies-lts.Need-returns-2 (denies-cs t) (denies-at t) never-denies.Post
-  denies-returns-2 c = judged-deny (c .match .keys1) refl
+  denies-returns-2 c = judged-leaf aDeny refl (c .match .keys1) refl
 
   denies-returns-3 : never-denies-lts.Need-returns-3 (denies-cs t) (denies-at t) never-denies.Post
-  denies-returns-3 c = judged-allow (c .match .keys2) refl
+  denies-returns-3 c = judged-leaf anAllow refl (c .match .keys2) refl
 
   denies-returns-4 : never-denies-lts.Need-returns-4 (denies-cs t) (denies-at t) never-denies.Post
-  denies-returns-4 c = judged-targeted (c .before .before .match .keys3)
+  denies-returns-4 c = judged-second aTargeted refl (c .before .before .match .keys3)
       (c .before .skip-target .ensures)
       (c .never-denies .ensures)
       (λ _ _ e. e)
 
   denies-returns-5 : never-denies-lts.Need-returns-5 (denies-cs t) (denies-at t) never-denies.Post
-  denies-returns-5 c = judged-not (c .before .match .keys4) (c .never-allows .ensures) (λ _ e. e)
+  denies-returns-5 c = judged-one (aNot policy) refl (c .before .match .keys4) (c .never-allows .ensures) (λ _ e. e)
 
   denies-returns-6 : never-denies-lts.Need-returns-6 (denies-cs t) (denies-at t) never-denies.Post
-  denies-returns-6 c = judged-default (c .before .match .keys5) (c .never-denies2 .ensures) (λ _ e. refl)
+  denies-returns-6 c = judged-one (aDefault policy) refl (c .before .match .keys5) (c .never-denies2 .ensures) (λ _ e. refl)
 
   denies-returns-7 : never-denies-lts.Need-returns-7 (denies-cs t) (denies-at t) never-denies.Post
-  denies-returns-7 c = judged-and (denies-and (c .before .before .before))
+  denies-returns-7 c = judged-two (anAnd policy) refl (denies-and (c .before .before .before))
       (c .before .before .never-denies3 .ensures)
       (c .before .never-denies4 .ensures)
       (λ _ _ e f. rw (← e, c .if1 .left))

@@ -1,10 +1,12 @@
 -- The cycle {skip_target}, by the nodes left.
 use Prim.Native.Nat.{ℕ, _<_}
+use mathlib.Core.Path.{refl}
 use native.Mathlib.Omega.{arith}
 use borrow.Fn.Kinds.{In}
 use borrow.Fn.PlainCycle.{Measures, is, falls, and}
-use Rattle.files.proofs.View.{has-room, has-left, has-atom, has-inner, has-first, has-second}
-use Rattle.certify.proofs.Laws.{behind-atom, behind-one, behind-and}
+use Rattle.ptacl.specs.Term.{target, anAtom, anAnd}
+use Rattle.files.proofs.View.{parts, has-room, has-left, has-inner, has-first}
+use Rattle.certify.proofs.Laws.{behind, behind-one}
 use Rattle.certify.proofs.skip_target.Reads as skip-target
 use Rattle.certify.proofs.skip_target.Kinds as kinds
 use Rattle.certify.proofs.+skip_target.Lts-skip_target as lts
@@ -25,10 +27,10 @@ module _ (t : ℕ) where
   shared-slice-read-tag c = has-room (c .before .before .pre .1)
 
   add-result : lts.Need-add-result (cs t) (at t) skip-target.Post
-  add-result c = omega (arith, has-atom (c .before .before .before .pre .1) (c .if1 .taken))
+  add-result c = omega (arith, parts anAtom (c .if1 .taken) (c .before .before .before .pre .1))
 
   returns : lts.Need-returns (cs t) (at t) skip-target.Post
-  returns c = behind-atom (c .if1 .taken)
+  returns c = behind anAtom (c .if1 .taken) refl
 
   add-skip-target : lts.Need-add-skip-target (cs t) (at t) skip-target.Post
   add-skip-target c = omega (arith, has-room (c .before .before .before .pre .1))
@@ -48,11 +50,11 @@ module _ (t : ℕ) where
   skip-target-requires-2 : lts.Need-skip-target-requires-2 (cs t) (at t) skip-target.Post
   skip-target-requires-2 c κs = (
     omega (arith, has-left (c .before .before .before .before .before .pre .1)),
-    has-second (c .before .before .before .before .before .pre .1) (c .if2 .taken) (c .before .skip-target .ensures .past),
+    parts (anAnd target) (c .if2 .taken) (c .before .before .before .before .before .pre .1) .1 _ (c .before .skip-target .ensures .past),
   )
 
   returns-2 : lts.Need-returns-2 (cs t) (at t) skip-target.Post
-  returns-2 c = behind-and (c .before .if2 .taken) (c .before .before .skip-target .ensures) (c .skip-target2 .ensures)
+  returns-2 c = behind (anAnd target) (c .before .if2 .taken) (_, c .before .before .skip-target .ensures .past, c .skip-target2 .ensures .past)
 
   returns-3 : lts.Need-returns-3 (cs t) (at t) skip-target.Post
   returns-3 c = behind-one

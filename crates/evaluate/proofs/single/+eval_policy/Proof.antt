@@ -5,9 +5,9 @@ use native.Mathlib.Omega.{arith}
 use lib.ListN.{getD}
 use borrow.Fn.Kinds.{In}
 use borrow.Fn.PlainCycle.{Measures, is, falls, and}
-use Rattle.ptacl.specs.Term.{policy, anAnd, tagOf}
+use Rattle.ptacl.specs.Term.{policy, aTargeted, anAnd, tagOf}
 use Rattle.files.specs.Places.{Has}
-use Rattle.files.proofs.View.{Inner, has-room, has-left, has-target, has-body, has-inner, has-and-tag, has-first, has-second}
+use Rattle.files.proofs.View.{parts, Inner, has-room, has-left, has-inner, has-and-tag, has-first}
 use Rattle.evaluate.specs.Ordered.{OrderedFile}
 use Rattle.evaluate.proofs.Nodes.{for-part, is-deny, is-allow, is-targeted, is-not, is-default, is-and}
 use Rattle.evaluate.proofs.single.eval_policy.Reads as eval-policy
@@ -88,7 +88,7 @@ module _ (t : ℕ) where
 
   eval-target-requires : lts.Need-eval-target-requires (cs t) (at t) eval-policy.Post
   eval-target-requires c κs =
-      (has-target (given (c .before .before .before) .1 .0) (c .if3 .taken), given (c .before .before .before) .1 .1)
+      (parts aTargeted (c .if3 .taken) (given (c .before .before .before) .1 .0) .0, given (c .before .before .before) .1 .1)
 
   sub-eval-policy : lts.Need-sub-eval-policy (cs t) (at t) eval-policy.Post
   sub-eval-policy c = has-left (given (c .before .before .before .before) .1 .0)
@@ -96,7 +96,7 @@ module _ (t : ℕ) where
   eval-policy-requires : lts.Need-eval-policy-requires (cs t) (at t) eval-policy.Post
   eval-policy-requires c κs =
       let g = given (c .before .before .before .before) in
-      for-part g (has-body (g .1 .0) (c .before .if3 .taken) (c .eval-target .ensures .past))
+      for-part g (parts aTargeted (c .before .if3 .taken) (g .1 .0) .1 _ (c .eval-target .ensures .past))
 
   targeted-requires : lts.Need-targeted-requires (cs t) (at t) eval-policy.Post
   targeted-requires c κs = tt
@@ -135,7 +135,7 @@ module _ (t : ℕ) where
   eval-policy-requires-3 : lts.Need-eval-policy-requires-3 (cs t) (at t) eval-policy.Post
   eval-policy-requires-3 c κs =
       let g = given (c .before .before .before .before .before .before .before) in
-      for-part g (has-second (g .1 .0) (and-tag c) (c .before .before .before .eval-policy2 .ensures .past))
+      for-part g (parts (anAnd policy) (and-tag c) (g .1 .0) .1 _ (c .before .before .before .eval-policy2 .ensures .past))
 
   and-requires : lts.Need-and-requires (cs t) (at t) eval-policy.Post
   and-requires c κs = tt

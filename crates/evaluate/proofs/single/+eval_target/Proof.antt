@@ -5,10 +5,10 @@ use native.Mathlib.Omega.{arith}
 use lib.ListN.{getD}
 use borrow.Fn.Kinds.{In}
 use borrow.Fn.PlainCycle.{Measures, is, falls, and}
-use Rattle.ptacl.specs.Term.{target, anAnd, tagOf}
+use Rattle.ptacl.specs.Term.{target, anAtom, anAnd, tagOf}
 use Rattle.files.specs.Places.{Has}
 use Rattle.files.proofs.Framing.{lent-bytes}
-use Rattle.files.proofs.View.{Inner, has-room, has-left, has-atom, has-inner, has-and-tag, has-first, has-second}
+use Rattle.files.proofs.View.{parts, Inner, has-room, has-left, has-inner, has-and-tag, has-first}
 use Rattle.evaluate.specs.Ordered.{OrderedFile}
 use Rattle.evaluate.proofs.Nodes.{for-part, is-atom, is-not, is-default, is-and}
 use Rattle.evaluate.proofs.single.eval_target.Reads as eval-target
@@ -72,13 +72,13 @@ module _ (t : ℕ) where
   add-pair c = omega (arith, has-room (given (c .before) .1 .0))
 
   pair-requires : lts.Need-pair-requires (cs t) (at t) eval-target.Post
-  pair-requires c κs = omega (arith, has-atom (given (c .before) .1 .0) (c .if1 .taken))
+  pair-requires c κs = omega (arith, parts anAtom (c .if1 .taken) (given (c .before) .1 .0))
 
   atom-requires : lts.Need-atom-requires (cs t) (at t) eval-target.Post
   atom-requires c κs = given (c .before .before) .1 .1
 
   add-t17 : lts.Need-add-t17 (cs t) (at t) eval-target.Post
-  add-t17 c = omega (arith, has-atom (given (c .before .before .before) .1 .0) (c .before .before .if1 .taken))
+  add-t17 c = omega (arith, parts anAtom (c .before .before .if1 .taken) (given (c .before .before .before) .1 .0))
 
   returns : lts.Need-returns (cs t) (at t) eval-target.Post
   returns c = is-atom
@@ -112,7 +112,7 @@ module _ (t : ℕ) where
   eval-target-requires-2 : lts.Need-eval-target-requires-2 (cs t) (at t) eval-target.Post
   eval-target-requires-2 c κs =
       let g = given (c .before .before .before .before) in
-      for-part g (has-second (g .1 .0) (and-tag c) (c .before .before .eval-target .ensures .past))
+      for-part g (parts (anAnd target) (and-tag c) (g .1 .0) .1 _ (c .before .before .eval-target .ensures .past))
 
   and-requires : lts.Need-and-requires (cs t) (at t) eval-target.Post
   and-requires c κs = tt

@@ -1,5 +1,5 @@
 -- At each `return` the tests that led there say which case of a head it is.
-use Prim.Native.Nat.{ℕ}
+use Prim.Native.Nat.{ℕ, _+_}
 use mathlib.Core.Path.{sym, ap, _∙_}
 use lib.ListN.{getD}
 use borrow.Author.Needs.{needs}
@@ -20,27 +20,30 @@ shared-slice-read-byte-at c = search needs
 byte-at-requires : tie.Need-byte-at-requires
 byte-at-requires c κs = search needs
 
-enum-known-tag : tie.Need-enum-known-tag
-enum-known-tag c = search needs
+enum-known-shape : tie.Need-enum-known-shape
+enum-known-shape c = search needs
 
 limit-requires : tie.Need-limit-requires
 limit-requires c κs = search needs
+
+add-t17 : tie.Need-add-t17
+add-t17 c = search needs
 
 enum-told : tie.Need-enum-told
 enum-told c = search needs
 
 -- the byte's node is named by the tag that the arm binds
-named : (c : tie.After-tag) →
+named : (c : tie.After-shape) →
     let a = c .before .before .before .before .before .before .args in
-    Names (byteAt (sortOf (a .sort)) (getD (a .file .now) (a .at) 0)) (c .tag .given .0 .0)
-named c = byte-tag _ _ (sym (c .before .before .byte-at .ensures) ∙ c .tag .given .1)
+    Names (byteAt (sortOf (a .sort)) (getD (a .file .now) (a .at) 0)) (c .shape .given .0 .0)
+named c = byte-tag _ _ (sym (c .before .before .byte-at .ensures) ∙ c .shape .given .1)
 
 returns-2 : tie.Need-returns-2
 returns-2 c =
     let d = c .before .before .before in
     let w = named d in
     let l = sym (c .before .limit .ensures) ∙ c .if2 .taken in
-    ap Head.Node (sym (w .so))
+    ap (λ g. Head.Node g (d .before .before .before .before .before .before .args .at + 1)) (sym (w .so))
     ∙ ap (λ h. headOf h) (sym (head-node _ _ _ _ _ (w .its) (d .before .before .before .before .if1 .left) (w .is) l))
 
 returns-3 : tie.Need-returns-3
@@ -64,8 +67,9 @@ head-at-spec =
     returns
     shared-slice-read-byte-at
     byte-at-requires
-    enum-known-tag
+    enum-known-shape
     limit-requires
+    add-t17
     enum-told
     returns-2
     returns-3

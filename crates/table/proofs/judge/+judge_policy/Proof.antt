@@ -5,8 +5,8 @@ use native.Mathlib.Omega.{arith}
 use lib.ListN.{getD}
 use borrow.Fn.Kinds.{In}
 use borrow.Fn.PlainCycle.{Measures, is, falls, and}
-use Rattle.ptacl.specs.Term.{policy, anAnd, tagOf}
-use Rattle.files.proofs.View.{Inner, has-room, has-left, has-target, has-body, has-inner, has-first, has-second, has-and-tag}
+use Rattle.ptacl.specs.Term.{policy, aTargeted, anAnd, tagOf}
+use Rattle.files.proofs.View.{parts, Inner, has-room, has-left, has-inner, has-first, has-and-tag}
 use Rattle.evaluate.proofs.Nodes.{for-part}
 use Rattle.table.proofs.Judged.{target-ends, policy-ends, deny-judged, allow-judged, targeted-judged}
 use Rattle.table.proofs.Judged.{policy-not-judged, policy-default-judged, policy-and-judged, some-judged}
@@ -109,7 +109,7 @@ module _ (t : ℕ) where
 
   judge-target-requires : lts.Need-judge-target-requires (claims t) (at t) reads.Post
   judge-target-requires c κs =
-      let h = c .before .before .before .before .before .before .pre .1 in (has-target (h .0) (c .if3 .taken), h .1)
+      let h = c .before .before .before .before .before .before .pre .1 in (parts aTargeted (c .if3 .taken) (h .0) .0, h .1)
 
   sub-judge-policy : lts.Need-sub-judge-policy (claims t) (at t) reads.Post
   sub-judge-policy c = has-left (c .before .before .before .before .before .before .before .pre .1 .0)
@@ -117,7 +117,7 @@ module _ (t : ℕ) where
   judge-policy-requires : lts.Need-judge-policy-requires (claims t) (at t) reads.Post
   judge-policy-requires c κs =
       let h = c .before .before .before .before .before .before .before .pre in
-      for-part h (has-body (h .1 .0) (c .before .if3 .taken) (target-ends (c .judge-target .ensures .0)))
+      for-part h (parts aTargeted (c .before .if3 .taken) (h .1 .0) .1 _ (target-ends (c .judge-target .ensures .0)))
 
   targeted-requires : lts.Need-targeted-requires (claims t) (at t) reads.Post
   targeted-requires c κs = c .before .judge-target .ensures .1
@@ -159,13 +159,13 @@ module _ (t : ℕ) where
   judge-policy-requires-3 : lts.Need-judge-policy-requires-3 (claims t) (at t) reads.Post
   judge-policy-requires-3 c κs =
       let h = c .before .before .before .before .before .before .before .before .before .before .before .before .pre in
-      for-part h (has-second (h .1 .0) (and-byte c) (policy-ends (c .before .before .before .before .before .judge-policy2 .ensures)))
+      for-part h (parts (anAnd policy) (and-byte c) (h .1 .0) .1 _ (policy-ends (c .before .before .before .before .before .judge-policy2 .ensures)))
 
   both-requires : lts.Need-both-requires (claims t) (at t) reads.Post
   both-requires c κs =
       let h = c .before .before .before .before .before .before .before .before .before .before .before .before .before .pre .1 .0 in
       let f = c .before .before .before .before .before .before .judge-policy2 .ensures in
-      let e = has-second h (and-byte (c .before)) (policy-ends f) in
+      let e = parts (anAnd policy) (and-byte (c .before)) h .1 _ (policy-ends f) in
       let n = inner-byte (c .before .before .before .before .before .before .before) in
       (some-judged _ (has-first h n) f, some-judged _ e (c .judge-policy3 .ensures))
 

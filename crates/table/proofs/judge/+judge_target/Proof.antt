@@ -5,9 +5,9 @@ use native.Mathlib.Omega.{arith}
 use lib.ListN.{getD}
 use borrow.Fn.Kinds.{In}
 use borrow.Fn.PlainCycle.{Measures, is, falls, and}
-use Rattle.ptacl.specs.Term.{target, anAnd, tagOf}
+use Rattle.ptacl.specs.Term.{target, anAtom, anAnd, tagOf}
 use Rattle.files.proofs.Framing.{lent-bytes}
-use Rattle.files.proofs.View.{has-room, has-left, has-inner, has-first, has-second, has-and-tag, has-atom}
+use Rattle.files.proofs.View.{parts, has-room, has-left, has-inner, has-first, has-and-tag}
 use Rattle.files.proofs.bytes.pair.Reads as pair-reads
 use Rattle.evaluate.proofs.Nodes.{for-part}
 use Rattle.table.proofs.Judged.{target-ends, atom-judged, not-judged, default-judged, and-judged}
@@ -60,13 +60,13 @@ module _ (t : ℕ) where
   shared-slice-read-tag c = has-room (c .before .before .before .pre .1 .0)
 
   add-pair : lts.Need-add-pair (claims t) (at t) reads.Post
-  add-pair c = omega (arith, has-atom (c .before .before .before .before .pre .1 .0) (c .if1 .taken))
+  add-pair c = omega (arith, parts anAtom (c .if1 .taken) (c .before .before .before .before .pre .1 .0))
 
   pair-requires : lts.Need-pair-requires (claims t) (at t) reads.Post
-  pair-requires c κs = omega (arith, has-atom (c .before .before .before .before .pre .1 .0) (c .if1 .taken))
+  pair-requires c κs = omega (arith, parts anAtom (c .if1 .taken) (c .before .before .before .before .pre .1 .0))
 
   add-atom : lts.Need-add-atom (claims t) (at t) reads.Post
-  add-atom c = omega (arith, has-atom (c .before .before .before .before .before .pre .1 .0) (c .before .if1 .taken))
+  add-atom c = omega (arith, parts anAtom (c .before .if1 .taken) (c .before .before .before .before .before .pre .1 .0))
 
   atom-requires : lts.Need-atom-requires (claims t) (at t) reads.Post
   atom-requires c κs = c .before .before .before .before .before .pre .1 .1
@@ -103,7 +103,7 @@ module _ (t : ℕ) where
   judge-target-requires-2 : lts.Need-judge-target-requires-2 (claims t) (at t) reads.Post
   judge-target-requires-2 c κs =
       let h = c .before .before .before .before .before .before .before .before .before .pre in
-      for-part h (has-second (h .1 .0) (and-byte c) (target-ends (c .before .before .before .before .judge-target .ensures .0)))
+      for-part h (parts (anAnd target) (and-byte c) (h .1 .0) .1 _ (target-ends (c .before .before .before .before .judge-target .ensures .0)))
 
   and-requires : lts.Need-and-requires (claims t) (at t) reads.Post
   and-requires c κs = tt
