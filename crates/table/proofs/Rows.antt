@@ -8,11 +8,8 @@ use lib.Bits.{bitAnd, bitOr, bitXor}
 use lib.ListN.{getD}
 use Rattle.ptacl.specs.Exposure.{bit}
 use Rattle.table.specs.declared.row.Row.{Row}
-use Rattle.table.specs.Rows.{words, lane, RowIs, laneOf}
+use Rattle.table.specs.Rows.{words, rowOf, lane, RowIs, laneOf}
 use Rattle.table.proofs.Words.{ones, bit-and, bit-or, bit-not, bit-none, bit-ones}
-
-abbrev rowOf : (ℕ → ℕ) → Row
-rowOf f = record { w0 = f 0; w1 = f 1; w2 = f 2; w3 = f 3; w4 = f 4; w5 = f 5; w6 = f 6; w7 = f 7 }
 
 -- so many values of f, from one on
 abbrev listed : (ℕ → ℕ) → ℕ → ℕ → List ℕ
@@ -54,6 +51,6 @@ pub row-not : (a : Row) → RowIs (rowOf (λ k. bitXor (word a k) ones)) (λ j. 
 unfolding lane
 row-not a = row-is (λ k. bitXor (word a k) ones) (λ j h. bit-not _ (j % 64) (omega arith))
 
-pub row-of-pair : (rows : List ℕ) (i : ℕ) → RowIs (rowOf (λ k. getD rows (i * 8 + k) 0)) (laneOf rows i)
+pub row-of-pair : {r : Row} (rows : List ℕ) (i : ℕ) → r ≡ rowOf (λ k. getD rows (i * 8 + k) 0) → RowIs r (laneOf rows i)
 unfolding laneOf
-row-of-pair rows i = row-is (λ k. getD rows (i * 8 + k) 0) (λ j h. refl)
+row-of-pair rows i e = rw e (row-is (λ k. getD rows (i * 8 + k) 0) (λ j h. refl))

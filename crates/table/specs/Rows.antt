@@ -20,6 +20,10 @@ use Rattle.table.specs.Allowed.{allowed}
 abbrev pub words : Row → List ℕ
 words r = r .w0 ∷ r .w1 ∷ r .w2 ∷ r .w3 ∷ r .w4 ∷ r .w5 ∷ r .w6 ∷ r .w7 ∷ []
 
+-- the row with those words
+abbrev pub rowOf : (ℕ → ℕ) → Row
+rowOf f = record { w0 = f 0; w1 = f 1; w2 = f 2; w3 = f 3; w4 = f 4; w5 = f 5; w6 = f 6; w7 = f 7 }
+
 -- bit j of a row
 unfoldable pub lane : Row → ℕ → Bool
 lane r j = bit (getD (words r) (j / 64) 0) (j % 64)

@@ -1,8 +1,8 @@
 // What a target and a policy come to in 512 requests at once.
 ghost use mathlib.Core.Path.{_≡_};
 ghost use mathlib.Core.List.{map};
-ghost use Prim.Native.Nat.{_/_, _%_, _<_, _≤_};
-ghost use lib.ListN.{length};
+ghost use Prim.Native.Nat.{_+_, _*_, _/_, _%_, _<_, _≤_};
+ghost use lib.ListN.{length, getD};
 ghost use Rattle.ptacl.specs.Term.{target, policy};
 ghost use Rattle.ptacl.specs.Value.{andV};
 ghost use Rattle.ptacl.specs.Values.{each2, under};
@@ -10,7 +10,7 @@ ghost use Rattle.ptacl.specs.Meaning.{atomAt};
 ghost use Rattle.ptacl.specs.Pairs.{unpacked};
 ghost use Rattle.ptacl.specs.Exposure.{strict};
 ghost use Rattle.files.specs.Places.{Has};
-ghost use Rattle.table.specs.Rows.{lane, RowIs, laneOf, request, valueAt, Apart, setAt, setBy, SomeAt, ValuesAre, SetsAre, TargetRows, PolicyRows, PairRows, AllowedRow};
+ghost use Rattle.table.specs.Rows.{lane, rowOf, RowIs, request, valueAt, Apart, setAt, setBy, SomeAt, ValuesAre, SetsAre, TargetRows, PolicyRows, PairRows, AllowedRow};
 use crate::row::ONES;
 use crate::row::Row;
 
@@ -32,7 +32,7 @@ pub struct PolicyRow {
 // Pair i's row.
 fn row_of(rows: &[u64; 128], i: usize) -> Row
     requires { ⌜ i < 16 ⌝ }
-    ensures { λ r. ⌜ RowIs r (laneOf (now (rows .entry)) i) ⌝ }
+    ensures { λ r. ⌜ r ≡ rowOf (λ k. getD (now (rows .entry)) (i * 8 + k) 0) ⌝ }
 {
     let at = i * 8;
     Row {

@@ -7,6 +7,7 @@ use lib.ListN.{length}
 use borrow.Author.Needs.{needs}
 use borrow.Author.Tests.{eq-eqb, ne-eqb}
 use Rattle.table.proofs.Lanes.{shows-values, shows-apart}
+use Rattle.table.proofs.Rows.{row-of-pair}
 use Rattle.table.proofs.Pass.{Passed, pass-start, pass-over, pass-with, atom-law}
 use Rattle.table.proofs.judge.atom.Statement.{statement}
 use Rattle.table.proofs.judge.atom.Tie as tie
@@ -60,13 +61,13 @@ loop-again c =
     let l = c .before .before .loop-test .taken in
     ⊎-elim
     (λ w. rw (w .6, w .7) (
-      pass-with (v .0) l (eq-eqb _ _ (w .4 .taken)) (w .1 .ensures) (w .5 .ensures),
-      pass-with (v .1) l (eq-eqb _ _ (w .0 .taken)) (w .1 .ensures) (w .2 .ensures),
+      pass-with (v .0) l (eq-eqb _ _ (w .4 .taken)) (row-of-pair _ _ (w .1 .ensures)) (w .5 .ensures),
+      pass-with (v .1) l (eq-eqb _ _ (w .0 .taken)) (row-of-pair _ _ (w .1 .ensures)) (w .2 .ensures),
     ))
     (⊎-elim
     (λ w. rw (w .5, w .6) (
       pass-over (v .0) l (ne-eqb _ _ (w .4 .left)),
-      pass-with (v .1) l (eq-eqb _ _ (w .0 .taken)) (w .1 .ensures) (w .2 .ensures),
+      pass-with (v .1) l (eq-eqb _ _ (w .0 .taken)) (row-of-pair _ _ (w .1 .ensures)) (w .2 .ensures),
     ))
     (λ w. rw (w .1, w .2) (
       pass-over (v .0) l (ne-eqb _ _ (λ e. w .0 .left (ap (λ x. x / 65536) e))),
