@@ -4,14 +4,15 @@ use Prim.Native.Nat.{ℕ, _+_, _-_, _<_, _≤_}
 use mathlib.Core.Path.{_≡_, refl, sym, ap, subst, _∙_}
 use mathlib.Core.List.{List, [], _∷_, append-nil}
 use native.Mathlib.Omega.{arith}
-use lib.ListN.{length, getD, drop, length-append}
+use lib.ListN.{length, getD, take, drop, length-append, length-drop}
+use lib.Seq.{take-all}
 use Rattle.ptacl.specs.Term.{Sort, target, policy, Term, Policy, nodes}
 use Rattle.ptacl.specs.Term.{Node, anAtom, aDeny, anAllow, aTargeted, aNot, aDefault, anAnd, tagOf, Shape, numbers, leaf, one, two, shape}
 use Rattle.ptacl.proofs.Shapes.{Case, by-shape}
 use Rattle.files.specs.Encoding.{bytes, enc, policyFile, framed, Bytes}
 use Rattle.files.specs.Refusal.{Read, accepted, refused, dec16}
 use Rattle.files.specs.ReadPolicy.{readPolicy}
-use Rattle.files.specs.Places.{At, Has}
+use Rattle.files.specs.Places.{At, Has, PolicyFile, BodyOf, Encoded}
 use Rattle.files.specs.Cases.{policyRead}
 use Rattle.files.specs.declared.policy.PolicyRead.{PolicyRead}
 use Rattle.files.proofs.Places.{room, head, tail, left, right, pair-room, pair-name, pair-value}
@@ -192,10 +193,23 @@ policy-refused s {n} {p} e = go (readPolicy s) e
     go (accepted r) e = let z : _≡_ {A = ℕ} 0 1 = cc in absurd (omega arith)
     go (refused m q) e = cc
 
--- a policy that was read stands behind the frame
-pub policy-at : {s : List ℕ} {p : Policy} → readPolicy s ≡ accepted p → Bytes s → At s 3 (enc p)
-unfolding policyFile framed
-policy-at {s} {p} e bs = record { rest = []; split = ap (drop 3) (policy-exact s bs p .0 e .file) ∙ sym (append-nil (enc p)) }
+-- a file that was accepted; its body, which begins with the policy's first byte
+pub policy-file : {s : List ℕ} → Bytes s → policyRead (readPolicy s) ≡ PolicyRead.Accepted → PolicyFile s
+policy-file {s} b e = let a = policy-accepted s e in record { term = a .0; file = policy-exact s b (a .0) .0 (a .1) }
 
-pub policy-has : {s : List ℕ} {p : Policy} → readPolicy s ≡ accepted p → Bytes s → Has policy s 3 255
-policy-has {s} {p} e bs = record { term = p; here = policy-at e bs; few = policy-exact s bs p .0 e .fits .few }
+pub file-long : {s : List ℕ} → PolicyFile s → 3 ≤ length s
+unfolding policyFile framed
+file-long f = omega (arith, ap length (f .file .file))
+
+pub behind-frame : {s : List ℕ} → PolicyFile s → BodyOf s (take (length s - 3) (drop 3 s))
+unfolding policyFile framed
+behind-frame {s} f = record { right = λ p i. take-all (length s - 3) (drop 3 s) (omega (arith, length-drop 3 s)) ∙ ap (drop 3) (i .file) }
+
+pub body-encoded : {s b : List ℕ} → (f : PolicyFile s) → BodyOf s b → Encoded b
+body-encoded f e = record { term = f .term; bytes = e .right (f .term) (f .file); few = f .file .fits .few }
+
+pub body-at : {b : List ℕ} (p : Policy) → b ≡ enc p → At b 0 (enc p)
+body-at p e = record { rest = []; split = e ∙ sym (append-nil (enc p)) }
+
+pub body-has : {b : List ℕ} → Encoded b → Has policy b 0 255
+body-has e = record { term = e .term; here = body-at (e .term) (e .bytes); few = e .few }

@@ -5,6 +5,7 @@ ghost use lib.ListN.{length};
 ghost use Rattle.ptacl.specs.Term.{target, policy};
 ghost use Rattle.files.specs.Prefix.{scan};
 ghost use Rattle.files.specs.ReadPolicy.{byteAt, limitOf, headAt, pairAt, inBytes, readPolicy};
+ghost use Rattle.files.specs.Places.{PolicyFile, BodyOf};
 ghost use Rattle.files.specs.Cases.{sortOf, byteOf, headOf, seen, policyRead};
 use crate::frame;
 use crate::frame::Frame;
@@ -179,4 +180,12 @@ pub fn read_policy(file: &[u8]) -> PolicyRead
         }
         Scanned::Fault { number, place } => PolicyRead::Refused { number, place },
     }
+}
+
+// The body of a policy file that was accepted. Every later pass is lent this part, so that only the reader knows where it begins.
+pub fn body(file: &[u8]) -> &[u8]
+    requires { ⌜ PolicyFile (now file) ⌝ }
+    ensures { λ r. ⌜ BodyOf (now (file .entry)) (now r) ⌝ }
+{
+    &file[3..]
 }

@@ -1,10 +1,10 @@
 -- What callers take from the contracts: the named pairs are ready to be passed on; the lists are a policy's pairs and a normal form.
-use Prim.Native.Nat.{ℕ, _-_, _≤_}
+use Prim.Native.Nat.{ℕ, _≤_}
 use mathlib.Core.Path.{_≡_, refl, sym, _∙_}
 use mathlib.Core.List.{List, map}
 use native.Mathlib.Omega.{arith}
-use lib.ListN.{length, take, drop, length-map, length-drop}
-use lib.Seq.{length-take-le, take-all}
+use lib.ListN.{length, take, length-map}
+use lib.Seq.{length-take-le}
 use Rattle.ptacl.specs.Request.{Pair, Request}
 use Rattle.ptacl.specs.Pairs.{IsPairs, packed, unpacked, IsNormal}
 use Rattle.ptacl.specs.Term.{Policy, atoms}
@@ -37,10 +37,6 @@ listed Told l few long t = record {
   where
     taken : length (numbers l) ≡ l .count
     taken = length-take-le (l .count) (l .pairs) (omega arith)
-
--- a part that starts behind a file's frame and goes to its end
-pub behind-frame : (s : List ℕ) → take (length s - 3) (drop 3 s) ≡ drop 3 s
-behind-frame s = take-all (length s - 3) (drop 3 s) (omega (arith, length-drop 3 s))
 
 -- the named pairs of a policy's bytes, passed on
 module _ (b : List ℕ) (e : Encoded b) (named : Pairs) (n : NamedOf b named) where

@@ -3,7 +3,7 @@ ghost use mathlib.Core.Path.{_≡_};
 ghost use mathlib.Core.Bool.{true};
 ghost use mathlib.Core.List.{map};
 ghost use Prim.Native.Nat.{_+_, _/_, _≤_, _<_};
-ghost use lib.ListN.{length, drop};
+ghost use lib.ListN.{length};
 ghost use Rattle.ptacl.specs.Pairs.{unpacked, named, namedOrFresh, unnamed, normal};
 ghost use Rattle.files.specs.Memory.{over};
 ghost use Rattle.files.specs.Places.{Encoded, numbersOf};
@@ -175,19 +175,19 @@ fn normal_of(named: Pairs, request: &[u8]) -> Pairs
 }
 
 // The pairs of a policy that was read.
-pub fn pairs_of(file: &[u8]) -> Pairs
-    requires { ⌜ (3 ≤ length (now file)) × Encoded (drop 3 (now file)) ⌝ }
-    ensures { λ r. ⌜ PairsOf (drop 3 (now (file .entry))) r ⌝ }
+pub fn pairs_of(body: &[u8]) -> Pairs
+    requires { ⌜ Encoded (now body) ⌝ }
+    ensures { λ r. ⌜ PairsOf (now (body .entry)) r ⌝ }
 {
-    all_of(named_of(&file[3..]))
+    all_of(named_of(body))
 }
 
 // The normal form of a request for a policy that was read.
-pub fn normal_form_of(file: &[u8], request: &[u8]) -> Pairs
-    requires { ⌜ (3 ≤ length (now file)) × Encoded (drop 3 (now file)) × OrderedFile (now request) ⌝ }
-    ensures { λ r. ⌜ NormalFormOf (drop 3 (now (file .entry))) (map unpacked (numbersOf (now (request .entry)))) r ⌝ }
+pub fn normal_form_of(body: &[u8], request: &[u8]) -> Pairs
+    requires { ⌜ Encoded (now body) × OrderedFile (now request) ⌝ }
+    ensures { λ r. ⌜ NormalFormOf (now (body .entry)) (map unpacked (numbersOf (now (request .entry)))) r ⌝ }
 {
-    normal_of(named_of(&file[3..]), request)
+    normal_of(named_of(body), request)
 }
 
 // Copies numbers to the front of a lent slice.

@@ -12,7 +12,6 @@ use Rattle.ptacl.specs.Pairs.{unpacked}
 use Rattle.ptacl.specs.Exposure.{strict, onePair, Exposure}
 use Rattle.ptacl.proofs.Bits.{bit-below}
 use Rattle.files.specs.Encoding.{enc}
-use Rattle.files.specs.Places.{At}
 use Rattle.table.specs.Allowed.{allowed, bitAt, Filled}
 use Rattle.table.proofs.Filled.{filled-start}
 use Rattle.search.specs.Hits.{HitAt, QuietIf}
@@ -50,7 +49,7 @@ module _ (pairs : List ℕ) {p : Policy} {m i : ℕ} (e : Exposure p (map unpack
   exposed-pair = bit-below m (length pairs) i exposed-subset (e .taken)
 
 -- what the rows that are judged tell of a policy's exposures
-module _ {b pairs t : List ℕ} {rows : ℕ} (f : Filled strict b pairs t rows) (p : Policy) (h : At b 3 (enc p)) {m i : ℕ} (l : m < 512 * rows) where
+module _ {b pairs t : List ℕ} {rows : ℕ} (f : Filled strict b pairs t rows) (p : Policy) (h : b ≡ enc p) {m i : ℕ} (l : m < 512 * rows) where
   pub to-table : Exposure p (map unpacked pairs) m i → HitAt (bitAt t) onePair (length pairs) m i
   unfolding allowed
   to-table e = record {
@@ -72,7 +71,7 @@ module _ {b pairs t : List ℕ} {rows : ℕ} (f : Filled strict b pairs t rows) 
 -- so many rows are judged, and no subset before m exposes
 pub record Searching (b pairs t : List ℕ) (rows m : ℕ) : Type 0 where
   pub judged : Filled strict b pairs t rows
-  pub none : (p : Policy) → At b 3 (enc p) → NoneBefore (Exposure p (map unpacked pairs)) m
+  pub none : (p : Policy) → b ≡ enc p → NoneBefore (Exposure p (map unpacked pairs)) m
 
 pub searching-start : {b pairs t : List ℕ} → length t ≡ 1024 → Searching b pairs t 0 0
 searching-start e = record { judged = filled-start e; none = λ p h. before-start }
@@ -101,7 +100,7 @@ module _ {b pairs t : List ℕ} {m : ℕ} (s : Searching b pairs t (m / 512 + 1)
       let r : (m + 64 + 511) / 512 ≡ m / 512 + 1 = omega arith in
       rw r (record { judged = s .judged; none = λ p h. record { none = passed p h } })
     where
-      passed : (p : Policy) → At b 3 (enc p) → (n : ℕ) → n < m + 64 → (i : ℕ) → Exposure p (map unpacked pairs) n i → ⊥
+      passed : (p : Policy) → b ≡ enc p → (n : ℕ) → n < m + 64 → (i : ℕ) → Exposure p (map unpacked pairs) n i → ⊥
       passed p h n l i x = elim (decLe m n) [
         | yes g ↦ let f : n ≡ 64 * (m / 64) + (n - m) = omega arith in
             q .none refl (omega arith) (subst (λ z. HitAt (bitAt t) onePair (length pairs) z i) f (to-table (s .judged) p h (omega arith) x))

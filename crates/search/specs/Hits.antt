@@ -7,7 +7,6 @@ use Rattle.ptacl.specs.Term.{Policy}
 use Rattle.ptacl.specs.Pairs.{unpacked}
 use Rattle.ptacl.specs.Exposure.{Removal, bit, Exposure, First}
 use Rattle.files.specs.Encoding.{enc}
-use Rattle.files.specs.Places.{At}
 use Rattle.table.specs.Allowed.{bitAt}
 use Rattle.search.specs.declared.Hit.{Hit}
 
@@ -23,9 +22,9 @@ pub data Finds (E : ℕ → ℕ → Type 0) : Hit → Type 0 where
   nothing : ((m i : ℕ) → E m i → ⊥) → Finds E Hit.Nothing
   at : {m i : ℕ} → First E m i → Finds E (Hit.At m i)
 
--- the first exposure of every policy whose file this is
+-- the first exposure of every policy whose body this is
 pub record FindsIn (b pairs : List ℕ) (r : Hit) : Type 0 where
-  pub right : (p : Policy) → At b 3 (enc p) → Finds (Exposure p (map unpacked pairs)) r
+  pub right : (p : Policy) → b ≡ enc p → Finds (Exposure p (map unpacked pairs)) r
 
 -- bit j of a word: the subset 64 * w + j less pair i is allowed, where it holds the pair
 pub record LessWord (t : List ℕ) (r : Removal) (w i x : ℕ) : Type 0 where

@@ -3,10 +3,9 @@ ghost use mathlib.Core.Path.{_≡_};
 ghost use mathlib.Core.List.{map};
 ghost use Prim.Native.Nat.{_^_, _<_, _≤_};
 ghost use lib.ListN.{length};
-ghost use Rattle.ptacl.specs.Term.{policy};
 ghost use Rattle.ptacl.specs.Exposure.{subset, onePair};
 ghost use Rattle.ptacl.specs.Pairs.{unpacked};
-ghost use Rattle.files.specs.Places.{Has};
+ghost use Rattle.files.specs.Places.{Encoded};
 ghost use Rattle.files.specs.Memory.{over};
 ghost use Rattle.search.specs.Hits.{FindsIn, LessWord, HitWord, QuietIf};
 ghost use Rattle.search.specs.Found.{twoFiles, FoundIn};
@@ -66,9 +65,9 @@ fn is_quiet(allowed: &[u64; 1024], w: usize, k: usize) -> bool
 }
 
 // The smallest m of an exposure, and for it the smallest i. The next 512 subsets are judged when the first of them is met.
-pub fn find(file: &[u8], pairs: &[u32]) -> Hit
-    requires { ⌜ Has policy (now file) 3 255 × (length (now pairs) ≤ 16) ⌝ }
-    ensures { λ r. ⌜ FindsIn (now (file .entry)) (now (pairs .entry)) r ⌝ }
+pub fn find(body: &[u8], pairs: &[u32]) -> Hit
+    requires { ⌜ Encoded (now body) × (length (now pairs) ≤ 16) ⌝ }
+    ensures { λ r. ⌜ FindsIn (now (body .entry)) (now (pairs .entry)) r ⌝ }
 {
     let k = pairs.len();
     let end = pow2(k);
@@ -79,7 +78,7 @@ pub fn find(file: &[u8], pairs: &[u32]) -> Hit
             break 'subsets Hit::Nothing;
         }
         if m % 512 == 0 {
-            table::fill_row(file, pairs, &mut allowed, m / 512);
+            table::fill_row(body, pairs, &mut allowed, m / 512);
         }
         if m % 64 == 0 {
             if is_quiet(&allowed, m / 64, k) {
@@ -136,11 +135,11 @@ fn write_subsets(pairs: &[u32], smaller: usize, larger: usize, space: &mut [u8])
 }
 
 // Searches a policy that was read, with its pairs; the files of an exposure go into the space.
-pub fn search(file: &[u8], pairs: &[u32], space: &mut [u8]) -> Verdict
-    requires { ⌜ Has policy (now file) 3 255 × (length (now pairs) ≤ 16) × (130 ≤ length (now space)) ⌝ }
-    ensures { λ r. ⌜ FoundIn (now (file .entry)) (now (pairs .entry)) (now (space .entry)) r (now (space .exit)) ⌝ }
+pub fn search(body: &[u8], pairs: &[u32], space: &mut [u8]) -> Verdict
+    requires { ⌜ Encoded (now body) × (length (now pairs) ≤ 16) × (130 ≤ length (now space)) ⌝ }
+    ensures { λ r. ⌜ FoundIn (now (body .entry)) (now (pairs .entry)) (now (space .entry)) r (now (space .exit)) ⌝ }
 {
-    match find(file, pairs) {
+    match find(body, pairs) {
         Hit::Nothing => Verdict::Resistant,
         Hit::At { m, i } => {
             let bytes = write_subsets(pairs, m - pow2(i), m, space);

@@ -59,7 +59,8 @@ pub fn decide(policy: &[u8], request: &[u8]) -> Decision
     if let RequestRead::Refused { number, place } = files::request::read_request(request) {
         return Decision::Refused { number, place };
     }
-    let answer = evaluate::single::eval_policy(policy, 3, 255, request);
+    let body = files::policy::body(policy);
+    let answer = evaluate::single::eval_policy(body, 0, 255, request);
     let set = answer.set;
     if set.code == 0 {
         return Decision::Refused {
@@ -77,7 +78,8 @@ pub fn list_pairs(policy: &[u8], pairs: &mut [u32]) -> Listing
     if let PolicyRead::Refused { number, place } = files::policy::read_policy(policy) {
         return Listing::Refused { number, place };
     }
-    let all = pairs::pairs_of(policy);
+    let body = files::policy::body(policy);
+    let all = pairs::pairs_of(body);
     let list = all.pairs;
     let count = all.count;
     if pairs.len() < count {
@@ -100,7 +102,8 @@ pub fn normal_form(policy: &[u8], request: &[u8], space: &mut [u8]) -> Normalise
     if let RequestRead::Refused { number, place } = files::request::read_request(request) {
         return Normalised::Refused { number, place };
     }
-    let normal = pairs::normal_form_of(policy, request);
+    let body = files::policy::body(policy);
+    let normal = pairs::normal_form_of(body, request);
     let list = normal.pairs;
     let count = normal.count;
     if space.len() < 3 + 4 * count {
@@ -120,7 +123,8 @@ pub fn certify(policy: &[u8]) -> Certified
     if let PolicyRead::Refused { number, place } = files::policy::read_policy(policy) {
         return Certified::Refused { number, place };
     }
-    let certificate = certify::certificate_at(policy, 3, 255);
+    let body = files::policy::body(policy);
+    let certificate = certify::certificate_at(body, 0, 255);
     Certified::By {
         rule: certificate.number,
     }
@@ -133,7 +137,8 @@ pub fn search(policy: &[u8], space: &mut [u8]) -> Searched
     if let PolicyRead::Refused { number, place } = files::policy::read_policy(policy) {
         return Searched::Refused { number, place };
     }
-    let all = pairs::pairs_of(policy);
+    let body = files::policy::body(policy);
+    let all = pairs::pairs_of(body);
     let list = all.pairs;
     let count = all.count;
     if 16 < count {
@@ -148,7 +153,7 @@ pub fn search(policy: &[u8], space: &mut [u8]) -> Searched
             place: 0,
         };
     }
-    match search::search(policy, &list[..count], space) {
+    match search::search(body, &list[..count], space) {
         Verdict::Resistant => Searched::Resistant { pairs: count },
         Verdict::Exposed { m, i, bytes } => Searched::Exposed {
             pairs: count,

@@ -17,6 +17,7 @@ use Rattle.ptacl.proofs.Rules.{nonempty}
 use Rattle.files.specs.Encoding.{Bytes}
 use Rattle.files.specs.Refusal.{dec16}
 use Rattle.files.specs.Places.{Has}
+use Rattle.files.proofs.View.{body-at}
 use Rattle.files.proofs.View.{Ends}
 use Rattle.evaluate.specs.Evaluated.{Evaluated}
 use Rattle.evaluate.proofs.Nodes.{act-told, act2-told, is-atom, is-deny, is-allow, is-targeted, is-not, is-default, is-and}
@@ -121,10 +122,10 @@ module _ {b : List ℕ} {i : ℕ} {pairs rows : List ℕ} where
 
 -- the requests of the lanes are the subsets from 512 * w on
 pub allowed-judged : {b pairs rows : List ℕ} {w : ℕ} {p : PolicyRow} {r : Row} → PairRows w rows → length pairs ≤ 16
-    → PolicyRows b 3 pairs rows p → RowIs r (λ j. strict (setAt p j)) → AllowedRow strict b pairs w r
+    → PolicyRows b 0 pairs rows p → RowIs r (λ j. strict (setAt p j)) → AllowedRow strict b pairs w r
 unfolding allowed
 allowed-judged {b} {pairs} {rows} {w} {p} k l h s = record {
   subsets = λ t a j g.
       s .at j g
-      ∙ (ap strict (same-code (setAt p j) _ (h .held j g .value t a)) ∙ ap (λ q. strict (eval t q)) (request-subset pairs rows w j k l g));
+      ∙ (ap strict (same-code (setAt p j) _ (h .held j g .value t (body-at t a))) ∙ ap (λ q. strict (eval t q)) (request-subset pairs rows w j k l g));
 }

@@ -10,7 +10,6 @@ use Rattle.ptacl.specs.Meaning.{eval}
 use Rattle.ptacl.specs.Pairs.{unpacked}
 use Rattle.ptacl.specs.Exposure.{Reading, bit, subset}
 use Rattle.files.specs.Encoding.{enc}
-use Rattle.files.specs.Places.{At}
 
 -- by a reading: the subset numbered m is allowed
 unfoldable pub allowed : Reading → Policy → List Pair → ℕ → Bool
@@ -20,7 +19,7 @@ allowed g p ps m = g (eval p (subset ps m))
 unfoldable pub bitAt : List ℕ → ℕ → Bool
 bitAt t m = bit (getD t (m / 64) 0) (m % 64)
 
--- the table is right at the subsets of the rows before w, 512 to a row, for the policy whose file this is and these pairs
+-- the table is right at the subsets of the rows before w, 512 to a row, for the policy whose body this is and these pairs
 pub record Filled (g : Reading) (b pairs t : List ℕ) (w : ℕ) : Type 0 where
   pub size : length t ≡ 1024
-  pub right : (p : Policy) → At b 3 (enc p) → (m : ℕ) → m < 512 * w → bitAt t m ≡ allowed g p (map unpacked pairs) m
+  pub right : (p : Policy) → b ≡ enc p → (m : ℕ) → m < 512 * w → bitAt t m ≡ allowed g p (map unpacked pairs) m

@@ -10,7 +10,6 @@ use Rattle.ptacl.specs.Term.{target, policy, Policy}
 use Rattle.ptacl.specs.Pairs.{unpacked}
 use Rattle.ptacl.specs.Exposure.{Reading, bit}
 use Rattle.files.specs.Encoding.{enc}
-use Rattle.files.specs.Places.{At}
 use Rattle.evaluate.specs.Evaluated.{Evaluated}
 use Rattle.table.specs.declared.row.Row.{Row}
 use Rattle.table.specs.declared.judge.TargetRow.{TargetRow}
@@ -82,7 +81,7 @@ pub record PairRows (w : ℕ) (rows : List ℕ) : Type 0 where
 
 -- which of the subsets from 512 * w on are allowed
 pub record AllowedRow (g : Reading) (b pairs : List ℕ) (w : ℕ) (r : Row) : Type 0 where
-  pub subsets : (p : Policy) → At b 3 (enc p) → (j : ℕ) → j < 512 → lane r j ≡ allowed g p (map unpacked pairs) (512 * w + j)
+  pub subsets : (p : Policy) → b ≡ enc p → (j : ℕ) → j < 512 → lane r j ≡ allowed g p (map unpacked pairs) (512 * w + j)
 
 -- a list with xs stored from a place on
 abbrev pub stored : List ℕ → ℕ → List ℕ → List ℕ

@@ -9,7 +9,7 @@ ghost use Rattle.ptacl.specs.Values.{each2, under};
 ghost use Rattle.ptacl.specs.Meaning.{atomAt};
 ghost use Rattle.ptacl.specs.Pairs.{unpacked};
 ghost use Rattle.ptacl.specs.Exposure.{strict};
-ghost use Rattle.files.specs.Places.{Has};
+ghost use Rattle.files.specs.Places.{Has, Encoded};
 ghost use Rattle.table.specs.Rows.{lane, rowOf, RowIs, request, valueAt, Apart, setAt, setBy, SomeAt, ValuesAre, SetsAre, TargetRows, PolicyRows, PairRows, AllowedRow};
 use crate::row::ONES;
 use crate::row::Row;
@@ -217,9 +217,9 @@ fn only_allow(set: PolicyRow) -> Row
 }
 
 // Which of the 512 subsets whose pairs these rows give are allowed.
-pub fn judge(file: &[u8], pairs: &[u32], rows: &[u64; 128], w: usize) -> Row
-    requires { ⌜ Has policy (now file) 3 255 × (length (now pairs) ≤ 16) × PairRows w (now rows) ⌝ }
-    ensures { λ r. ⌜ AllowedRow strict (now (file .entry)) (now (pairs .entry)) w r ⌝ }
+pub fn judge(body: &[u8], pairs: &[u32], rows: &[u64; 128], w: usize) -> Row
+    requires { ⌜ Encoded (now body) × (length (now pairs) ≤ 16) × PairRows w (now rows) ⌝ }
+    ensures { λ r. ⌜ AllowedRow strict (now (body .entry)) (now (pairs .entry)) w r ⌝ }
 {
-    only_allow(judge_policy(file, 3, 255, pairs, rows))
+    only_allow(judge_policy(body, 0, 255, pairs, rows))
 }

@@ -2,9 +2,8 @@
 ghost use mathlib.Core.Path.{_≡_};
 ghost use Prim.Native.Nat.{_+_, _<_, _≤_};
 ghost use lib.ListN.{length};
-ghost use Rattle.ptacl.specs.Term.{policy};
 ghost use Rattle.ptacl.specs.Exposure.{strict};
-ghost use Rattle.files.specs.Places.{Has};
+ghost use Rattle.files.specs.Places.{Encoded};
 ghost use Rattle.table.specs.Allowed.{bitAt, Filled};
 ghost use Rattle.table.specs.Rows.{words, PairWord, PairRows, stored};
 use crate::row::ONES;
@@ -70,12 +69,12 @@ fn put_row(table: &mut [u64; 1024], at: usize, row: Row)
 }
 
 // Row w, a bit for each of its subsets of the pairs: whether it is allowed.
-pub fn fill_row(file: &[u8], pairs: &[u32], table: &mut [u64; 1024], w: usize)
-    requires { ⌜ Has policy (now file) 3 255 × (length (now pairs) ≤ 16) × (w < 128) × Filled strict (now file) (now pairs) (now table) w ⌝ }
-    ensures { λ _. ⌜ Filled strict (now (file .entry)) (now (pairs .entry)) (now (table .exit)) (w + 1) ⌝ }
+pub fn fill_row(body: &[u8], pairs: &[u32], table: &mut [u64; 1024], w: usize)
+    requires { ⌜ Encoded (now body) × (length (now pairs) ≤ 16) × (w < 128) × Filled strict (now body) (now pairs) (now table) w ⌝ }
+    ensures { λ _. ⌜ Filled strict (now (body .entry)) (now (pairs .entry)) (now (table .exit)) (w + 1) ⌝ }
 {
     let rows = pair_rows(w);
-    let row = judge::judge(file, pairs, &rows, w);
+    let row = judge::judge(body, pairs, &rows, w);
     put_row(table, w * 8, row);
 }
 

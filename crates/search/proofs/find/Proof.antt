@@ -19,22 +19,22 @@ use Rattle.search.proofs.find.Statement.{statement}
 use Rattle.search.proofs.find.Tie as tie
 
 abbrev Inv-loop : tie.InvT-loop
-Inv-loop file pairs k end allowed m i₀ i = NoneAt (HitAt (bitAt allowed) onePair k) m i
+Inv-loop body pairs k end allowed m i₀ i = NoneAt (HitAt (bitAt allowed) onePair k) m i
 
 abbrev μ-loop : tie.MeasureT-loop
-μ-loop file pairs k end allowed m i₀ i = k - i
+μ-loop body pairs k end allowed m i₀ i = k - i
 
 abbrev Inv-subsets : tie.InvT-subsets
-Inv-subsets file pairs k end allowed₀ m₀ allowed m = (end ≤ 65536) × Searching file pairs allowed ((m + 511) / 512) m
+Inv-subsets body pairs k end allowed₀ m₀ allowed m = (end ≤ 65536) × Searching body pairs allowed ((m + 511) / 512) m
 
 abbrev μ-subsets : tie.MeasureT-subsets
-μ-subsets file pairs k end allowed₀ m₀ allowed m = end - m
+μ-subsets body pairs k end allowed₀ m₀ allowed m = end - m
 
 -- behind the test for a new row, the row of m is judged
 ready : (c : tie.Joined2 Inv-loop μ-loop Inv-subsets μ-subsets) →
     let a = c .before .before .before .before .before .before .args in
     let m = c .before .before .subsets .m in
-    Searching (a .file .now) (a .pairs .now) (c .if2 .allowed) (m / 512 + 1) m
+    Searching (a .body .now) (a .pairs .now) (c .if2 .allowed) (m / 512 + 1) m
 ready c =
     let v = c .before .before .subsets .inv .1 in
     ⊎-elim (λ w. rw (w .3) (row-new v (w .2 .ensures))) (λ w. rw (w .1) (row-there v (w .0 .left))) (c .if2 .came)

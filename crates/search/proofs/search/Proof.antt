@@ -28,7 +28,7 @@ exposed : (c : tie.After-m) →
     Exposure (s .pre .0 .term) (map unpacked (s .args .pairs .now)) (c .m .given .0 .0) (c .m .given .0 .1 .0)
 exposed c =
     let s = c .before .before .before .before .before .before in
-    found-hit ((rw (c .m .given .1) at (c .before .before .find .ensures)) .right _ (s .pre .0 .here))
+    found-hit ((rw (c .m .given .1) at (c .before .before .find .ensures)) .right _ (s .pre .0 .bytes))
 
 pair : (c : tie.After-m) → c .m .given .0 .1 .0 < length (c .before .before .before .before .before .before .args .pairs .now)
 pair c = exposed-pair (c .before .before .before .before .before .before .args .pairs .now) (exposed c)

@@ -3,35 +3,49 @@ use borrow.Author.Needs.{needs}
 use mathlib.Core.Path.{_≡_, sym, ap, _∙_}
 use Rattle.ptacl.specs.Values.{code}
 use Rattle.ptacl.specs.Meaning.{eval}
-use Rattle.files.proofs.View.{policy-refused}
+use Rattle.files.specs.Places.{PolicyFile}
+use Rattle.files.proofs.View.{policy-refused, body-has}
 use Rattle.files.proofs.RequestExact.{request-refused}
 use Rattle.sinkheron.specs.Ways.{unread, holding}
-use Rattle.sinkheron.proofs.Taken.{Taken, policy-taken, Sent, request-sent}
+use Rattle.sinkheron.proofs.Taken.{policy-taken, Lent, body-lent, Sent, request-sent}
 use Rattle.sinkheron.proofs.Written.{empty-set, some-set}
 use Rattle.sinkheron.proofs.decide.Statement.{statement}
 use Rattle.sinkheron.proofs.decide.Tie as tie
 use Rattle.sinkheron.proofs.decide.Reads as reads
 use Rattle.sinkheron.proofs.decide.Lts as lts
 use Rattle.evaluate.proofs.single.eval_policy.Reads as eval-policy-reads
+use Rattle.files.proofs.policy.body.Reads as body-reads
 use Rattle.files.proofs.policy.read_policy.Reads as read-policy-reads
 use Rattle.files.proofs.request.read_request.Reads as read-request-reads
 
 abbrev cs : lts.Claims
-cs = (read-policy-reads.Asked, read-policy-reads.Learnt, read-request-reads.Asked, read-request-reads.Learnt, eval-policy-reads.Asked, eval-policy-reads.Learnt)
+cs = (
+  read-policy-reads.Asked,
+  read-policy-reads.Learnt,
+  read-request-reads.Asked,
+  read-request-reads.Learnt,
+  body-reads.Asked,
+  body-reads.Learnt,
+  eval-policy-reads.Asked,
+  eval-policy-reads.Learnt,
+)
 
--- the policy, once its file is accepted, and the request, once its file is
-its-policy : (c : lts.After-enum-told cs reads.Pre reads.Post) → Taken (c .before .before .before .before .before .args .policy .now)
+-- the policy and its body, once its file is accepted, and the request, once its file is
+its-policy : (c : lts.After-enum-told cs reads.Pre reads.Post) → PolicyFile (c .before .before .before .before .before .args .policy .now)
 its-policy c = policy-taken (c .before .before .before .before .shared-slice-known .given) (sym (c .before .before .read-policy .ensures) ∙ c .enum-told .given .1)
+
+its-body : (c : lts.After-body cs reads.Pre reads.Post) → Lent (c .before .before .before .before .before .before .before .before .before .args .policy .now) (c .body .result .now)
+its-body c = body-lent (its-policy (c .before .before .before .before)) (c .body .ensures)
 
 its-request : (c : lts.After-enum-told2 cs reads.Pre reads.Post) → Sent (c .before .before .before .before .before .before .before .before .args .request .now)
 its-request c = request-sent (c .before .before .before .before .before .before .shared-slice-known2 .given) (sym (c .before .before .read-request .ensures) ∙ c .enum-told2 .given .1)
 
 -- the code is that of the set
 its-set : (c : lts.After-eval-policy cs reads.Pre reads.Post) →
-    c .eval-policy .result .set .code ≡ code (eval (its-policy (c .before .before .before .before) .term) (its-request (c .before) .request))
+    c .eval-policy .result .set .code ≡ code (eval (its-body (c .before) .term) (its-request (c .before .before) .request))
 its-set c =
-    c .eval-policy .ensures .value _ (its-policy (c .before .before .before .before) .here)
-    ∙ ap (λ q. code (eval (its-policy (c .before .before .before .before) .term) q)) (its-request (c .before) .pairs)
+    let p = its-body (c .before) in
+    c .eval-policy .ensures .value _ (p .here) ∙ ap (λ q. code (eval (p .term) q)) (its-request (c .before .before) .pairs)
 
 read-policy-requires : tie.Need-read-policy-requires
 read-policy-requires c κs = search needs
@@ -59,18 +73,19 @@ returns-2 c =
 enum-told-2 : tie.Need-enum-told-2
 enum-told-2 c = search needs
 
+body-requires : tie.Need-body-requires
+body-requires c κs = its-policy (c .before .before .before)
+
 eval-policy-requires : tie.Need-eval-policy-requires
-eval-policy-requires c κs = (its-policy (c .before .before .before) .has, its-request c .ordered)
+eval-policy-requires c κs = (body-has (its-body c .encoded), its-request (c .before) .ordered)
 
 returns-3 : tie.Need-returns-3
 returns-3 c =
-    empty-set (its-policy (c .before .before .before .before .before .before .before) .file)
-    (its-request (c .before .before .before .before) .file) (its-set (c .before .before .before)) (c .if1 .taken)
+    empty-set (its-body (c .before .before .before .before) .file) (its-request (c .before .before .before .before .before) .file) (its-set (c .before .before .before)) (c .if1 .taken)
 
 returns-4 : tie.Need-returns-4
 returns-4 c =
-    some-set (its-policy (c .before .before .before .before .before .before .before) .file)
-    (its-request (c .before .before .before .before) .file) (its-set (c .before .before .before)) (c .if1 .left)
+    some-set (its-body (c .before .before .before .before) .file) (its-request (c .before .before .before .before .before) .file) (its-set (c .before .before .before)) (c .if1 .left)
 
 pub decide-spec : {M : Type 1} → statement M
 decide-spec =
@@ -84,6 +99,7 @@ decide-spec =
     enum-known-number-2
     returns-2
     enum-told-2
+    body-requires
     eval-policy-requires
     returns-3
     returns-4)

@@ -6,34 +6,48 @@ use native.Mathlib.Omega.{arith}
 use lib.ListN.{length}
 use Rattle.ptacl.specs.Term.{atoms}
 use Rattle.ptacl.specs.Pairs.{IsPairs}
+use Rattle.files.specs.Places.{PolicyFile}
 use Rattle.files.proofs.View.{policy-refused}
 use Rattle.pairs.proofs.Callers.{Listed, pairs-listed}
 use Rattle.sinkheron.specs.Ways.{unread}
-use Rattle.sinkheron.proofs.Taken.{Taken, policy-taken, encoded}
+use Rattle.sinkheron.proofs.Taken.{policy-taken, Lent, body-lent}
 use Rattle.sinkheron.proofs.Written.{list-too-long, list-written}
 use Rattle.sinkheron.proofs.list_pairs.Statement.{statement}
 use Rattle.sinkheron.proofs.list_pairs.Tie as tie
 use Rattle.sinkheron.proofs.list_pairs.Reads as reads
 use Rattle.sinkheron.proofs.list_pairs.Lts as lts
+use Rattle.files.proofs.policy.body.Reads as body-reads
 use Rattle.files.proofs.policy.read_policy.Reads as read-policy-reads
 use Rattle.pairs.proofs.copy.Reads as copy-reads
 use Rattle.pairs.proofs.pairs_of.Reads as pairs-of-reads
 
 abbrev cs : lts.Claims
-cs = (read-policy-reads.Asked, read-policy-reads.Learnt, pairs-of-reads.Asked, pairs-of-reads.Learnt, copy-reads.Asked, copy-reads.Learnt)
+cs = (
+  read-policy-reads.Asked,
+  read-policy-reads.Learnt,
+  body-reads.Asked,
+  body-reads.Learnt,
+  pairs-of-reads.Asked,
+  pairs-of-reads.Learnt,
+  copy-reads.Asked,
+  copy-reads.Learnt,
+)
 
--- the policy, once its file is accepted, and its pairs
-its-policy : (c : lts.After-enum-told cs reads.Pre reads.Post) → Taken (c .before .before .before .before .before .args .policy .now)
-its-policy c =
-    policy-taken (c .before .before .before .before .shared-slice-known .given) (sym (c .before .before .read-policy .ensures) ∙ c .enum-told .given .1)
+-- the policy and its body, once its file is accepted, and its pairs
+its-policy : (c : lts.After-enum-told cs reads.Pre reads.Post) → PolicyFile (c .before .before .before .before .before .args .policy .now)
+its-policy c = policy-taken (c .before .before .before .before .shared-slice-known .given) (sym (c .before .before .read-policy .ensures) ∙ c .enum-told .given .1)
 
-its-pairs : (c : lts.After-pairs-of cs reads.Pre reads.Post) → Listed (IsPairs (atoms (its-policy (c .before) .term))) (c .pairs-of .result)
-its-pairs c = pairs-listed (its-policy (c .before) .term) (its-policy (c .before) .body) _ (search needs) (c .pairs-of .ensures)
+its-body : (c : lts.After-body cs reads.Pre reads.Post) → Lent (c .before .before .before .before .before .before .args .policy .now) (c .body .result .now)
+its-body c = body-lent (its-policy (c .before)) (c .body .ensures)
+
+its-pairs : (c : lts.After-pairs-of cs reads.Pre reads.Post) → Listed (IsPairs (atoms (its-body (c .before) .term))) (c .pairs-of .result)
+its-pairs c = let p = its-body (c .before) in pairs-listed (p .term) (p .bytes) _ (search needs) (c .pairs-of .ensures)
 
 fits : (c : lts.After-pairs-of cs reads.Pre reads.Post) → c .pairs-of .result .count ≤ length (c .pairs-of .result .pairs)
 fits c =
     let l : length (c .pairs-of .result .pairs) ≡ 254 = search needs in
-    omega (arith, c .pairs-of .ensures .right (its-policy (c .before) .term) (its-policy (c .before) .body) .most)
+    let p = its-body (c .before) in
+    omega (arith, c .pairs-of .ensures .right (p .term) (p .bytes) .most)
 
 read-policy-requires : tie.Need-read-policy-requires
 read-policy-requires c κs = search needs
@@ -47,12 +61,14 @@ returns c = unread (policy-refused _ (sym (c .before .before .before .read-polic
 enum-told : tie.Need-enum-told
 enum-told c = search needs
 
+body-requires : tie.Need-body-requires
+body-requires c κs = its-policy (c)
+
 pairs-of-requires : tie.Need-pairs-of-requires
-pairs-of-requires c κs = (its-policy c .long, encoded (its-policy c))
+pairs-of-requires c κs = its-body c .encoded
 
 returns-2 : tie.Need-returns-2
-returns-2 c =
-    list-too-long (its-policy (c .before .before .before) .file) _ (its-pairs (c .before .before)) (c .if1 .taken)
+returns-2 c = list-too-long (its-body (c .before .before .before) .file) _ (its-pairs (c .before .before)) (c .if1 .taken)
 
 array-share-prefix-list : tie.Need-array-share-prefix-list
 array-share-prefix-list c = fits (c .before .before)
@@ -67,9 +83,7 @@ same-length : tie.Need-same-length
 same-length c = search needs
 
 returns-3 : tie.Need-returns-3
-returns-3 c =
-    list-written (its-policy (c .before .before .before .before .before .before .before .before) .file) _
-    (its-pairs (c .before .before .before .before .before .before .before)) (c .before .before .before .before .before .if1 .left) (c .before .before .copy .ensures)
+returns-3 c = list-written (its-body (c .before .before .before .before .before .before .before .before) .file) _ (its-pairs (c .before .before .before .before .before .before .before)) (c .before .before .before .before .before .if1 .left) (c .before .before .copy .ensures)
 
 pub list-pairs-spec : {M : Type 1} → statement M
 list-pairs-spec =
@@ -79,6 +93,7 @@ list-pairs-spec =
     enum-known-number
     returns
     enum-told
+    body-requires
     pairs-of-requires
     returns-2
     array-share-prefix-list

@@ -7,15 +7,17 @@ use lib.ListN.{length}
 use Rattle.ptacl.specs.Term.{atoms}
 use Rattle.ptacl.specs.Pairs.{IsNormal}
 use Rattle.files.proofs.RequestExact.{request-refused}
+use Rattle.files.specs.Places.{PolicyFile}
 use Rattle.files.proofs.View.{policy-refused}
 use Rattle.pairs.proofs.Callers.{Listed, normal-listed}
 use Rattle.sinkheron.specs.Ways.{unread, holding}
-use Rattle.sinkheron.proofs.Taken.{Taken, policy-taken, encoded, Sent, request-sent}
+use Rattle.sinkheron.proofs.Taken.{policy-taken, Lent, body-lent, Sent, request-sent}
 use Rattle.sinkheron.proofs.Written.{file-too-long, file-written}
 use Rattle.sinkheron.proofs.normal_form.Statement.{statement}
 use Rattle.sinkheron.proofs.normal_form.Tie as tie
 use Rattle.sinkheron.proofs.normal_form.Reads as reads
 use Rattle.sinkheron.proofs.normal_form.Lts as lts
+use Rattle.files.proofs.policy.body.Reads as body-reads
 use Rattle.files.proofs.policy.read_policy.Reads as read-policy-reads
 use Rattle.files.proofs.request.read_request.Reads as read-request-reads
 use Rattle.files.proofs.write.write_request.Reads as write-request-reads
@@ -27,29 +29,32 @@ cs = (
   read-policy-reads.Learnt,
   read-request-reads.Asked,
   read-request-reads.Learnt,
+  body-reads.Asked,
+  body-reads.Learnt,
   normal-form-of-reads.Asked,
   normal-form-of-reads.Learnt,
   write-request-reads.Asked,
   write-request-reads.Learnt,
 )
 
--- the policy, once its file is accepted; the request, once its file is; its normal form
-its-policy : (c : lts.After-enum-told cs reads.Pre reads.Post) → Taken (c .before .before .before .before .before .before .args .policy .now)
-its-policy c =
-    policy-taken (c .before .before .before .before .before .shared-slice-known .given)
-    (sym (c .before .before .read-policy .ensures) ∙ c .enum-told .given .1)
+-- the policy and its body, once its file is accepted; the request, once its file is; its normal form
+its-policy : (c : lts.After-enum-told cs reads.Pre reads.Post) → PolicyFile (c .before .before .before .before .before .before .args .policy .now)
+its-policy c = policy-taken (c .before .before .before .before .before .shared-slice-known .given) (sym (c .before .before .read-policy .ensures) ∙ c .enum-told .given .1)
+
+its-body : (c : lts.After-body cs reads.Pre reads.Post) → Lent (c .before .before .before .before .before .before .before .before .before .before .args .policy .now) (c .body .result .now)
+its-body c = body-lent (its-policy (c .before .before .before .before)) (c .body .ensures)
 
 its-request : (c : lts.After-enum-told2 cs reads.Pre reads.Post) → Sent (c .before .before .before .before .before .before .before .before .before .args .request .now)
 its-request c = request-sent (c .before .before .before .before .before .before .before .shared-slice-known2 .given) (sym (c .before .before .read-request .ensures) ∙ c .enum-told2 .given .1)
 
 its-form : (c : lts.After-normal-form-of cs reads.Pre reads.Post) →
-    Listed (IsNormal (atoms (its-policy (c .before .before .before .before) .term)) (its-request (c .before) .request)) (c .normal-form-of .result)
+    Listed (IsNormal (atoms (its-body (c .before) .term)) (its-request (c .before .before) .request)) (c .normal-form-of .result)
 its-form c =
-    let p = its-policy (c .before .before .before .before) in
-    normal-listed (p .term) (p .body) _ (search needs) (rw (its-request (c .before) .pairs) at (c .normal-form-of .ensures))
+    let p = its-body (c .before) in
+    normal-listed (p .term) (p .bytes) _ (search needs) (rw (its-request (c .before .before) .pairs) at (c .normal-form-of .ensures))
 
 fits : (c : lts.After-normal-form-of cs reads.Pre reads.Post) → c .normal-form-of .result .count ≤ 254
-fits c = let p = its-policy (c .before .before .before .before) in c .normal-form-of .ensures .right (p .term) (p .body) .most
+fits c = let p = its-body (c .before) in c .normal-form-of .ensures .right (p .term) (p .bytes) .most
 
 read-policy-requires : tie.Need-read-policy-requires
 read-policy-requires c κs = search needs
@@ -77,8 +82,11 @@ returns-2 c =
 enum-told-2 : tie.Need-enum-told-2
 enum-told-2 c = search needs
 
+body-requires : tie.Need-body-requires
+body-requires c κs = its-policy (c .before .before .before)
+
 normal-form-of-requires : tie.Need-normal-form-of-requires
-normal-form-of-requires c κs = let p = its-policy (c .before .before .before) in (p .long, encoded p, its-request c .ordered)
+normal-form-of-requires c κs = (its-body c .encoded, its-request (c .before) .ordered)
 
 mul-if1 : tie.Need-mul-if1
 mul-if1 c = omega (arith, fits (c .before))
@@ -88,8 +96,8 @@ add-if1 c = omega (arith, fits (c .before))
 
 returns-3 : tie.Need-returns-3
 returns-3 c =
-    file-too-long (its-policy (c .before .before .before .before .before .before) .file) _
-    (its-request (c .before .before .before) .file) (its-form (c .before .before)) (c .if1 .taken)
+    file-too-long (its-body (c .before .before .before) .file) _
+    (its-request (c .before .before .before .before) .file) (its-form (c .before .before)) (c .if1 .taken)
 
 array-share-prefix-list : tie.Need-array-share-prefix-list
 array-share-prefix-list c =
@@ -109,10 +117,8 @@ same-length c = search needs
 
 returns-4 : tie.Need-returns-4
 returns-4 c =
-    file-written (its-policy (c .before .before .before .before .before .before .before .before .before .before .before) .file) _
-    (its-request (c .before .before .before .before .before .before .before .before) .file)
-    (its-form (c .before .before .before .before .before .before .before)) (c .before .before .before .before .before .if1 .left)
-    (c .before .before .write-request .ensures .0) (c .before .before .write-request .ensures .1)
+    file-written (its-body (c .before .before .before .before .before .before .before .before) .file) _ (its-request (c .before .before .before .before .before .before .before .before .before) .file)
+    (its-form (c .before .before .before .before .before .before .before)) (c .before .before .before .before .before .if1 .left) (c .before .before .write-request .ensures .0) (c .before .before .write-request .ensures .1)
 
 pub normal-form-spec : {M : Type 1} → statement M
 normal-form-spec =
@@ -126,6 +132,7 @@ normal-form-spec =
     enum-known-number-2
     returns-2
     enum-told-2
+    body-requires
     normal-form-of-requires
     mul-if1
     add-if1

@@ -1,11 +1,12 @@
 -- The requests of the lanes are the subsets from 512 * w on.
 use borrow.Author.Needs.{needs}
+use Rattle.files.proofs.View.{body-has}
 use Rattle.table.proofs.Judged.{allowed-judged}
 use Rattle.table.proofs.judge.judge.Statement.{statement}
 use Rattle.table.proofs.judge.judge.Tie as tie
 
 judge-policy-requires : tie.Need-judge-policy-requires
-judge-policy-requires c κs = search needs
+judge-policy-requires c κs = (body-has (c .before .before .pre .0), c .before .before .pre .1)
 
 only-allow-requires : tie.Need-only-allow-requires
 only-allow-requires c κs = search needs
