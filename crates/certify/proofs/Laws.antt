@@ -1,5 +1,5 @@
 -- What the answers of the parts make of the whole: one law for each node, and for each way to a certificate.
-use Prim.Native.Nat.{ℕ, zero, suc, _+_, _-_, _≤_}
+use Prim.Native.Nat.{ℕ, zero, suc, _+_, _-_, _≤_, _<_}
 use mathlib.Core.Path.{_≡_, refl, sym, ap, ap₂, subst, _∙_}
 use mathlib.Core.Bool.{Bool, true, false, cond}
 use mathlib.Core.List.{List}
@@ -16,8 +16,17 @@ use Rattle.files.specs.Encoding.{enc}
 use Rattle.files.specs.Prefix.{spell}
 use Rattle.files.specs.Places.{At, Has}
 use Rattle.files.proofs.Places.{head}
-use Rattle.files.proofs.View.{as-node, as-two, EndsBy, ends, has-room, Inner, a-not, a-default, an-and}
+use Rattle.files.proofs.View.{as-node, as-two, Ends, EndsBy, ends, parts, has-room, has-left, Inner, a-not, a-default, an-and}
 use Rattle.certify.specs.Judged.{Behind, Judged, PolicyBytes, Lacks, NodeRule}
+
+-- what a function that is given t nodes asks of a call below it, and of one for the second of two terms
+module _ {s : Sort} {b : List ℕ} {i left t : ℕ} (g : (left ≡ t) × Has s b i left) where
+  pub call : {m : ℕ} → Has s b m (left - 1) → (left - 1 < t) × Has s b m (left - 1)
+  call h = (omega (arith, has-left (g .1)), h)
+
+  pub second : {r : Sort} {f : Term r → Term s → Term s} {m : ℕ} (k : Node s) → shape k ≡ two r f → getD b i 0 ≡ tagOf k
+      → Ends r b (i + 1) m → (left - 1 < t) × Has s b m (left - 1)
+  second k x e d = call ((rw x at (parts k e (g .1))) .1 _ d)
 
 module _ {b : List ℕ} {i : ℕ} where
   -- the place behind a term

@@ -38,25 +38,22 @@ fn never_allows(file: &[u8], at: usize, left: usize) -> Verdict
     requires { ⌜ Has policy (now file) at left ⌝ }
     ensures { λ r. ⌜ Judged (λ p. never p allows) (now (file .entry)) at (r .holds) (r .next) ⌝ }
 {
-    match file[at] {
-        0x20 => Verdict {
-            holds: true,
-            next: at + 1,
-        },
-        0x21 => Verdict {
-            holds: false,
-            next: at + 1,
-        },
+    let tag = file[at];
+    let next = at + 1;
+    let below = left - 1;
+    match tag {
+        0x20 => Verdict { holds: true, next },
+        0x21 => Verdict { holds: false, next },
         0x22 => {
-            let body = skip_target(file, at + 1, left - 1);
-            never_allows(file, body, left - 1)
+            let body = skip_target(file, next, below);
+            never_allows(file, body, below)
         }
-        0x23 => never_denies(file, at + 1, left - 1),
-        0x24 => never_allows(file, at + 1, left - 1),
+        0x23 => never_denies(file, next, below),
+        0x24 => never_allows(file, next, below),
         _ => {
-            let first = never_allows(file, at + 1, left - 1);
+            let first = never_allows(file, next, below);
             let middle = first.next;
-            let second = never_allows(file, middle, left - 1);
+            let second = never_allows(file, middle, below);
             if first.holds {
                 return Verdict {
                     holds: true,
@@ -73,31 +70,28 @@ fn never_denies(file: &[u8], at: usize, left: usize) -> Verdict
     requires { ⌜ Has policy (now file) at left ⌝ }
     ensures { λ r. ⌜ Judged (λ p. never p denies) (now (file .entry)) at (r .holds) (r .next) ⌝ }
 {
-    match file[at] {
-        0x20 => Verdict {
-            holds: false,
-            next: at + 1,
-        },
-        0x21 => Verdict {
-            holds: true,
-            next: at + 1,
-        },
+    let tag = file[at];
+    let next = at + 1;
+    let below = left - 1;
+    match tag {
+        0x20 => Verdict { holds: false, next },
+        0x21 => Verdict { holds: true, next },
         0x22 => {
-            let body = skip_target(file, at + 1, left - 1);
-            never_denies(file, body, left - 1)
+            let body = skip_target(file, next, below);
+            never_denies(file, body, below)
         }
-        0x23 => never_allows(file, at + 1, left - 1),
+        0x23 => never_allows(file, next, below),
         0x24 => {
-            let body = never_denies(file, at + 1, left - 1);
+            let body = never_denies(file, next, below);
             Verdict {
                 holds: false, // what is undefined comes to deny
                 next: body.next,
             }
         }
         _ => {
-            let first = never_denies(file, at + 1, left - 1);
+            let first = never_denies(file, next, below);
             let middle = first.next;
-            let second = never_denies(file, middle, left - 1);
+            let second = never_denies(file, middle, below);
             if first.holds {
                 return second;
             }
@@ -180,18 +174,21 @@ pub fn certificate_at(file: &[u8], at: usize, left: usize) -> Certificate
     if here.number != 0 {
         return here;
     }
-    match file[at] {
+    let tag = file[at];
+    let next = at + 1;
+    let below = left - 1;
+    match tag {
         0x24 => {
-            let body = certificate_at(file, at + 1, left - 1);
+            let body = certificate_at(file, next, below);
             Certificate {
                 number: given(body.number, 5),
                 next: body.next,
             }
         }
         0x25 => {
-            let first = certificate_at(file, at + 1, left - 1);
+            let first = certificate_at(file, next, below);
             let middle = first.next;
-            let second = certificate_at(file, middle, left - 1);
+            let second = certificate_at(file, middle, below);
             Certificate {
                 number: given(first.number, given(second.number, 6)),
                 next: second.next,

@@ -1,11 +1,12 @@
 -- The cycle {certificate_at}, by the nodes left.
 use Prim.Native.Nat.{ℕ, _<_}
+use mathlib.Core.Path.{refl}
 use native.Mathlib.Omega.{arith}
 use borrow.Fn.Kinds.{In}
 use borrow.Fn.PlainCycle.{Measures, is, falls, and}
-use Rattle.ptacl.specs.Term.{policy, anAnd}
-use Rattle.files.proofs.View.{parts, has-room, has-left, has-first, a-default, an-and}
-use Rattle.certify.proofs.Laws.{certified-here, certified-default, certified-and, certified-none}
+use Rattle.ptacl.specs.Term.{policy, aDefault, anAnd}
+use Rattle.files.proofs.View.{parts, has-room, has-left}
+use Rattle.certify.proofs.Laws.{call, second, certified-here, certified-default, certified-and, certified-none}
 use Rattle.certify.proofs.certificate_at.Reads as certificate-at
 use Rattle.certify.proofs.certificate_at.Kinds as kinds
 use Rattle.certify.proofs.+certificate_at.Lts-certificate_at as lts
@@ -27,57 +28,6 @@ abbrev cs : ℕ → lts.Claims
 cs t = (base-rule.Asked, base-rule.Learnt, below t, certificate-at.Post, given.Asked, given.Learnt)
 
 module _ (t : ℕ) where
-  base-rule-requires : lts.Need-base-rule-requires (cs t) (at t) certificate-at.Post
-  base-rule-requires c κs = c .before .pre .1
-
-  returns : lts.Need-returns (cs t) (at t) certificate-at.Post
-  returns c = certified-here (c .before .before .base-rule .ensures) (c .if1 .taken)
-
-  shared-slice-read-match : lts.Need-shared-slice-read-match (cs t) (at t) certificate-at.Post
-  shared-slice-read-match c = has-room (c .before .before .before .before .before .pre .1)
-
-  add-certificate-at : lts.Need-add-certificate-at (cs t) (at t) certificate-at.Post
-  add-certificate-at c = omega (arith, has-room (c .before .before .before .before .before .before .pre .1))
-
-  sub-certificate-at : lts.Need-sub-certificate-at (cs t) (at t) certificate-at.Post
-  sub-certificate-at c = has-left (c .before .before .before .before .before .before .pre .1)
-
-  certificate-at-requires : lts.Need-certificate-at-requires (cs t) (at t) certificate-at.Post
-  certificate-at-requires c κs = (
-    omega (arith, has-left (c .before .before .before .before .before .before .pre .1)),
-    has-first (c .before .before .before .before .before .before .pre .1) (a-default (c .match .keys1)),
-  )
-
-  given-requires : lts.Need-given-requires (cs t) (at t) certificate-at.Post
-  given-requires c κs = tt
-
-  add-certificate-at-2 : lts.Need-add-certificate-at-2 (cs t) (at t) certificate-at.Post
-  add-certificate-at-2 c = omega (arith, has-room (c .before .before .before .before .before .before .pre .1))
-
-  sub-certificate-at-2 : lts.Need-sub-certificate-at-2 (cs t) (at t) certificate-at.Post
-  sub-certificate-at-2 c = has-left (c .before .before .before .before .before .before .pre .1)
-
-  certificate-at-requires-2 : lts.Need-certificate-at-requires-2 (cs t) (at t) certificate-at.Post
-  certificate-at-requires-2 c κs = (
-    omega (arith, has-left (c .before .before .before .before .before .before .pre .1)),
-    has-first (c .before .before .before .before .before .before .pre .1) (an-and (c .match .keys2)),
-  )
-
-  sub-certificate-at-3 : lts.Need-sub-certificate-at-3 (cs t) (at t) certificate-at.Post
-  sub-certificate-at-3 c = has-left (c .before .before .before .before .before .before .before .pre .1)
-
-  certificate-at-requires-3 : lts.Need-certificate-at-requires-3 (cs t) (at t) certificate-at.Post
-  certificate-at-requires-3 c κs = (
-    omega (arith, has-left (c .before .before .before .before .before .before .before .pre .1)),
-    parts (anAnd policy) (c .before .match .keys2) (c .before .before .before .before .before .before .before .pre .1) .1 _ (c .certificate-at2 .ensures .behind .past),
-  )
-
-  given-requires-2 : lts.Need-given-requires-2 (cs t) (at t) certificate-at.Post
-  given-requires-2 c κs = tt
-
-  given-requires-3 : lts.Need-given-requires-3 (cs t) (at t) certificate-at.Post
-  given-requires-3 c κs = tt
-
   returns-2 : lts.Need-returns-2 (cs t) (at t) certificate-at.Post
   returns-2 c = certified-default
       (c .before .before .before .before .before .before .base-rule .ensures)
@@ -97,30 +47,21 @@ module _ (t : ℕ) where
       (c .given3 .ensures)
 
   returns-4 : lts.Need-returns-4 (cs t) (at t) certificate-at.Post
-  returns-4 c = certified-none
-      (c .before .before .before .before .base-rule .ensures)
-      (c .before .before .if1 .left)
-      (c .match .rest .0 .1)
-      (c .match .rest .1)
+  returns-4 c = certified-none (c .before .before .before .before .base-rule .ensures) (c .before .before .if1 .left) (c .match .rest .0 .1) (c .match .rest .1)
 
 pub +certificate-at-spec : {M : Type 1} → statement M
-+certificate-at-spec = close μ λ t. lts.spec (cs t)
-    (at t)
-    certificate-at.Post
-    (base-rule-requires t)
-    (returns t)
-    (shared-slice-read-match t)
-    (add-certificate-at t)
-    (sub-certificate-at t)
-    (certificate-at-requires t)
-    (given-requires t)
-    (add-certificate-at-2 t)
-    (sub-certificate-at-2 t)
-    (certificate-at-requires-2 t)
-    (sub-certificate-at-3 t)
-    (certificate-at-requires-3 t)
-    (given-requires-2 t)
-    (given-requires-3 t)
++certificate-at-spec = close μ λ t. lts.spec (cs t) (at t) certificate-at.Post
+    (λ c κs. c .before .pre .1)
+    (λ c. certified-here (c .before .before .base-rule .ensures) (c .if1 .taken))
+    (λ c. has-room (c .before .before .before .before .before .pre .1))
+    (λ c. omega (arith, has-room (c .before .before .before .before .before .pre .1)))
+    (λ c. has-left (c .before .before .before .before .before .pre .1))
+    (λ c κs. call (c .before .before .before .before .before .before .pre) (parts (aDefault policy) (c .match .keys1) (c .before .before .before .before .before .before .pre .1)))
+    (λ c κs. tt)
+    (λ c κs. call (c .before .before .before .before .before .before .pre) (parts (anAnd policy) (c .match .keys2) (c .before .before .before .before .before .before .pre .1) .0))
+    (λ c κs. second (c .before .before .before .before .before .before .before .pre) (anAnd policy) refl (c .before .match .keys2) (c .certificate-at2 .ensures .behind .past))
+    (λ c κs. tt)
+    (λ c κs. tt)
     (returns-2 t)
     (returns-3 t)
     (returns-4 t)

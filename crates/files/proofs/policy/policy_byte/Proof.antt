@@ -4,37 +4,19 @@ use Rattle.files.specs.ReadPolicy.{byteAt}
 use Rattle.files.proofs.policy.policy_byte.Statement.{statement}
 use Rattle.files.proofs.policy.policy_byte.Tie as tie
 
-returns : tie.Need-returns
+pub policy-byte-spec : {M : Type 1} → statement M
 unfolding byteAt
-returns c = rw (c .match .keys1)
-
-returns-2 : tie.Need-returns-2
-unfolding byteAt
-returns-2 c = rw (c .match .keys2)
-
-returns-3 : tie.Need-returns-3
-unfolding byteAt
-returns-3 c = rw (c .match .keys3)
-
-returns-4 : tie.Need-returns-4
-unfolding byteAt
-returns-4 c = rw (c .match .keys4)
-
-returns-5 : tie.Need-returns-5
-unfolding byteAt
-returns-5 c = rw (c .match .keys5)
-
-returns-6 : tie.Need-returns-6
-unfolding byteAt
-returns-6 c = rw (c .match .keys6)
-
-returns-7 : tie.Need-returns-7
-unfolding byteAt
-returns-7 c =
+policy-byte-spec =
+    tie.close
+    (tie.spec
+    (λ c. rw (c .match .keys1))
+    (λ c. rw (c .match .keys2))
+    (λ c. rw (c .match .keys3))
+    (λ c. rw (c .match .keys4))
+    (λ c. rw (c .match .keys5))
+    (λ c. rw (c .match .keys6))
+    (λ c.
     let r = c .match .rest in
     let q = r .0 .0 .0 in
     simp (ne-eqb _ _ (r .1), ne-eqb _ _ (r .0 .1), ne-eqb _ _ (r .0 .0 .1))
-    (simp (ne-eqb _ _ (q .1), ne-eqb _ _ (q .0 .1), ne-eqb _ _ (q .0 .0 .1)))
-
-pub policy-byte-spec : {M : Type 1} → statement M
-policy-byte-spec = tie.close (tie.spec returns returns-2 returns-3 returns-4 returns-5 returns-6 returns-7)
+    (simp (ne-eqb _ _ (q .1), ne-eqb _ _ (q .0 .1), ne-eqb _ _ (q .0 .0 .1)))))
