@@ -9,7 +9,7 @@ use lib.ListN.{length, drop, getD, length-drop, drop-of-length-le}
 use lib.Seq.{drop-drop, getD-drop}
 use Rattle.ptacl.specs.Request.{Pair}
 use Rattle.ptacl.specs.Term.{Sort, target, policy, Term, atom, deny, allow, targeted, not, default, and, atoms, without}
-use Rattle.ptacl.specs.Term.{Node, aDeny, anAllow, aTargeted, aNot, aDefault, anAnd, tagOf}
+use Rattle.ptacl.specs.Term.{Node, aNot, aDefault, anAnd, tagOf, fold}
 use Rattle.files.specs.Encoding.{enc}
 use Rattle.files.specs.Prefix.{spell}
 use Rattle.files.specs.Refusal.{dec16}
@@ -41,13 +41,13 @@ meetsNo k (i ∷ is) = no (eqb k (byteMet i)) && meetsNo k is
 
 -- the nodes of a term
 abbrev pub items : {s : Sort} → Term s → List Item
-items (atom n v) = atomItem (n, v) ∷ []
-items deny = nodeItem (tagOf aDeny) ∷ []
-items allow = nodeItem (tagOf anAllow) ∷ []
-items (targeted t p) = nodeItem (tagOf aTargeted) ∷ (items t ++ items p)
-items (not {s = s} t) = nodeItem (tagOf (aNot s)) ∷ items t
-items (default {s = s} t) = nodeItem (tagOf (aDefault s)) ∷ items t
-items (and {s = s} t u) = nodeItem (tagOf (anAnd s)) ∷ (items t ++ items u)
+items t =
+    fold (record {
+      numbers = λ n v. atomItem (n, v) ∷ [];
+      leaf = λ s k. nodeItem (tagOf k) ∷ [];
+      one = λ s k is. nodeItem (tagOf k) ∷ is;
+      two = λ s k is js. nodeItem (tagOf k) ∷ (is ++ js);
+    }) t
 
 pairs-append : (is js : List Item) → pairsMet (is ++ js) ≡ pairsMet is ++ pairsMet js
 pairs-append [] js = refl

@@ -148,12 +148,13 @@ fn read_term(file: &[u8], sort: Sort, left: usize, at: usize, nodes: usize) -> S
         Head::Stop { number, place } => Scanned::Fault { number, place },
         Head::Node { shape, next } => {
             let nodes = nodes + 1;
+            let below = left - 1;
             match shape {
                 Shape::Numbers => read_numbers(file, next, nodes),
                 Shape::Leaf => Scanned::Done { next, nodes },
-                Shape::One => read_term(file, sort, left - 1, next, nodes),
-                Shape::Two(first) => match read_term(file, first, left - 1, next, nodes) {
-                    Scanned::Done { next, nodes } => read_term(file, sort, left - 1, next, nodes),
+                Shape::One => read_term(file, sort, below, next, nodes),
+                Shape::Two(first) => match read_term(file, first, below, next, nodes) {
+                    Scanned::Done { next, nodes } => read_term(file, sort, below, next, nodes),
                     Scanned::Fault { number, place } => Scanned::Fault { number, place },
                 },
             }

@@ -6,26 +6,8 @@ use borrow.Author.Needs.{needs}
 use Rattle.files.proofs.frame.unframe.Statement.{statement}
 use Rattle.files.proofs.frame.unframe.Tie as tie
 
-returns : tie.Need-returns
-returns c = ap frameOf (sym (unframed-short _ _ _ (c .if1 .taken)))
-
-shared-slice-read-if2 : tie.Need-shared-slice-read-if2
-shared-slice-read-if2 c = search needs
-
-add-t7 : tie.Need-add-t7
-add-t7 c = search needs
-
 returns-2 : tie.Need-returns-2
 returns-2 c = ap frameOf (sym (unframed-version _ _ _ (c .before .before .if1 .left) (c .if2 .taken)))
-
-number-requires : tie.Need-number-requires
-number-requires c κs = search needs
-
-cast-if3 : tie.Need-cast-if3
-cast-if3 c = search needs
-
-add-t11 : tie.Need-add-t11
-add-t11 c = search needs
 
 returns-3 : tie.Need-returns-3
 returns-3 c =
@@ -41,12 +23,12 @@ pub unframe-spec : {M : Type 1} → statement M
 unframe-spec =
     tie.close
     (tie.spec
-    returns
-    shared-slice-read-if2
-    add-t7
+    (λ c. ap frameOf (sym (unframed-short _ _ _ (c .if1 .taken))))
+    (λ c. search needs)
+    (λ c. search needs)
     returns-2
-    number-requires
-    cast-if3
-    add-t11
+    (λ c κs. search needs)
+    (λ c. search needs)
+    (λ c. search needs)
     returns-3
     returns-4)

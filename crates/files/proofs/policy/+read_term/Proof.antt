@@ -47,57 +47,6 @@ module _ (t : ℕ) where
       (1 ≤ a .left) × (a .nodes < 255) × (c .before .shape .given .0 .1 .0 ≤ length (a .file .now))
   ok c = within-limits _ _ _ _ _ _ _ _ (sym (c .before .before .before .head-at .ensures) ∙ c .before .shape .given .1)
 
-  head-at-requires : lts.Need-head-at-requires (cs t) (at t) read-term.Post
-  head-at-requires c κs = tt
-
-  enum-known-number : lts.Need-enum-known-number (cs t) (at t) read-term.Post
-  enum-known-number c = search needs
-
-  enum-known-shape : lts.Need-enum-known-shape (cs t) (at t) read-term.Post
-  enum-known-shape c = search needs
-
-  add-nodes : lts.Need-add-nodes (cs t) (at t) read-term.Post
-  add-nodes c = omega (arith, ok c)
-
-  enum-told : lts.Need-enum-told (cs t) (at t) read-term.Post
-  enum-told c = search needs
-
-  read-numbers-requires : lts.Need-read-numbers-requires (cs t) (at t) read-term.Post
-  read-numbers-requires c κs = ok (c .before .before) .2
-
-  enum-told-2 : lts.Need-enum-told-2 (cs t) (at t) read-term.Post
-  enum-told-2 c = search needs
-
-  enum-told-3 : lts.Need-enum-told-3 (cs t) (at t) read-term.Post
-  enum-told-3 c = search needs
-
-  sub-read-term : lts.Need-sub-read-term (cs t) (at t) read-term.Post
-  sub-read-term c = ok (c .before .before) .0
-
-  read-term-requires : lts.Need-read-term-requires (cs t) (at t) read-term.Post
-  read-term-requires c κs = omega (arith, ok (c .before .before))
-
-  enum-known-shape-2 : lts.Need-enum-known-shape-2 (cs t) (at t) read-term.Post
-  enum-known-shape-2 c = search needs
-
-  sub-read-term-2 : lts.Need-sub-read-term-2 (cs t) (at t) read-term.Post
-  sub-read-term-2 c = ok (c .before .before .before) .0
-
-  read-term-requires-2 : lts.Need-read-term-requires-2 (cs t) (at t) read-term.Post
-  read-term-requires-2 c κs = omega (arith, ok (c .before .before .before))
-
-  enum-known-next : lts.Need-enum-known-next (cs t) (at t) read-term.Post
-  enum-known-next c = search needs
-
-  sub-read-term-3 : lts.Need-sub-read-term-3 (cs t) (at t) read-term.Post
-  sub-read-term-3 c = ok (c .before .before .before .before .before .before .before) .0
-
-  read-term-requires-3 : lts.Need-read-term-requires-3 (cs t) (at t) read-term.Post
-  read-term-requires-3 c κs = omega (arith, ok (c .before .before .before .before .before .before .before))
-
-  enum-known-number-2 : lts.Need-enum-known-number-2 (cs t) (at t) read-term.Post
-  enum-known-number-2 c = search needs
-
   returns : lts.Need-returns (cs t) (at t) read-term.Post
   returns c = seen-at _ _ _ _ _ _ _ (sym (c .before .before .before .head-at .ensures) ∙ c .before .number .given .1)
 
@@ -125,23 +74,21 @@ module _ (t : ℕ) where
 
 pub +read-term-spec : {M : Type 1} → statement M
 +read-term-spec = close μ λ t. lts.spec (cs t) (at t) read-term.Post
-    (head-at-requires t)
-    (enum-known-number t)
-    (enum-known-shape t)
-    (add-nodes t)
-    (enum-told t)
-    (read-numbers-requires t)
-    (enum-told-2 t)
-    (enum-told-3 t)
-    (sub-read-term t)
-    (read-term-requires t)
-    (enum-known-shape-2 t)
-    (sub-read-term-2 t)
-    (read-term-requires-2 t)
-    (enum-known-next t)
-    (sub-read-term-3 t)
-    (read-term-requires-3 t)
-    (enum-known-number-2 t)
+    (λ c κs. tt)
+    (λ c. search needs)
+    (λ c. search needs)
+    (λ c. omega (arith, ok t c))
+    (λ c. ok t c .0)
+    (λ c. search needs)
+    (λ c κs. ok t (c .before .before) .2)
+    (λ c. search needs)
+    (λ c. search needs)
+    (λ c κs. omega (arith, ok t (c .before .before)))
+    (λ c. search needs)
+    (λ c κs. omega (arith, ok t (c .before .before .before)))
+    (λ c. search needs)
+    (λ c κs. omega (arith, ok t (c .before .before .before .before .before .before .before)))
+    (λ c. search needs)
     (returns t)
     (returns-2 t)
     (returns-3 t)

@@ -14,24 +14,6 @@ use Rattle.files.proofs.policy.head_at.Tie as tie
 returns : tie.Need-returns
 returns c = ap (λ h. headOf h) (sym (head-cut _ _ _ _ _ (c .if1 .taken)))
 
-shared-slice-read-byte-at : tie.Need-shared-slice-read-byte-at
-shared-slice-read-byte-at c = search needs
-
-byte-at-requires : tie.Need-byte-at-requires
-byte-at-requires c κs = search needs
-
-enum-known-shape : tie.Need-enum-known-shape
-enum-known-shape c = search needs
-
-limit-requires : tie.Need-limit-requires
-limit-requires c κs = search needs
-
-add-t17 : tie.Need-add-t17
-add-t17 c = search needs
-
-enum-told : tie.Need-enum-told
-enum-told c = search needs
-
 -- the byte's node is named by the tag that the arm binds
 named : (c : tie.After-shape) →
     let a = c .before .before .before .before .before .before .args in
@@ -65,12 +47,12 @@ head-at-spec =
     tie.close
     (tie.spec
     returns
-    shared-slice-read-byte-at
-    byte-at-requires
-    enum-known-shape
-    limit-requires
-    add-t17
-    enum-told
+    (λ c. search needs)
+    (λ c κs. search needs)
+    (λ c. search needs)
+    (λ c κs. search needs)
+    (λ c. search needs)
+    (λ c. search needs)
     returns-2
     returns-3
     returns-4)

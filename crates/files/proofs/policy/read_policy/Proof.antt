@@ -9,26 +9,8 @@ use borrow.Author.Needs.{needs}
 use Rattle.files.proofs.policy.read_policy.Statement.{statement}
 use Rattle.files.proofs.policy.read_policy.Tie as tie
 
-unframe-requires : tie.Need-unframe-requires
-unframe-requires c κs = search needs
-
-enum-known-number : tie.Need-enum-known-number
-enum-known-number c = search needs
-
 returns : tie.Need-returns
 returns c = file-refused _ (sym (c .before .before .before .unframe .ensures) ∙ c .before .number .given .1)
-
-enum-told : tie.Need-enum-told
-enum-told c = search needs
-
-read-term-requires : tie.Need-read-term-requires
-read-term-requires c κs = search needs
-
-enum-known-next : tie.Need-enum-known-next
-enum-known-next c = search needs
-
-enum-known-number-2 : tie.Need-enum-known-number-2
-enum-known-number-2 c = search needs
 
 whole : (c : tie.After-enum-told) → frameOf (unframed 1 (c .before .before .before .before .args .file .now) (accepted tt)) ≡ Frame.Whole
 whole c = sym (c .before .before .unframe .ensures) ∙ c .enum-told .given .1
@@ -52,13 +34,13 @@ pub read-policy-spec : {M : Type 1} → statement M
 read-policy-spec =
     tie.close
     (tie.spec
-    unframe-requires
-    enum-known-number
+    (λ c κs. search needs)
+    (λ c. search needs)
     returns
-    enum-told
-    read-term-requires
-    enum-known-next
-    enum-known-number-2
+    (λ c. search needs)
+    (λ c κs. search needs)
+    (λ c. search needs)
+    (λ c. search needs)
     returns-2
     returns-3
     returns-4)

@@ -64,55 +64,19 @@ module _ (t : ℕ) where
       getD (a .file .now) (a .at) 0 ≡ tagOf (anAnd policy)
   and-byte c = has-and-tag (inner-byte (c .before .before .before .before .before .before)) (c .before .if4 .left) (c .if5 .left)
 
-  shared-slice-read-tag : lts.Need-shared-slice-read-tag (claims t) (at t) reads.Post
-  shared-slice-read-tag c = has-room (c .before .before .before .pre .1 .0)
-
-  same-requires : lts.Need-same-requires (claims t) (at t) reads.Post
-  same-requires c κs = tt
-
-  same-requires-2 : lts.Need-same-requires-2 (claims t) (at t) reads.Post
-  same-requires-2 c κs = tt
-
-  add-decided : lts.Need-add-decided (claims t) (at t) reads.Post
-  add-decided c = omega (arith, has-room (c .before .before .before .before .before .before .pre .1 .0))
-
-  decided-requires : lts.Need-decided-requires (claims t) (at t) reads.Post
-  decided-requires c κs = tt
-
   returns : lts.Need-returns (claims t) (at t) reads.Post
   returns c =
       let n = c .before .before .same .ensures in
       deny-judged _ n (c .before .same2 .ensures) (c .before .before .before .if1 .taken) (c .decided .ensures)
-
-  same-requires-3 : lts.Need-same-requires-3 (claims t) (at t) reads.Post
-  same-requires-3 c κs = tt
-
-  same-requires-4 : lts.Need-same-requires-4 (claims t) (at t) reads.Post
-  same-requires-4 c κs = tt
-
-  add-decided-2 : lts.Need-add-decided-2 (claims t) (at t) reads.Post
-  add-decided-2 c = omega (arith, has-room (c .before .before .before .before .before .before .before .pre .1 .0))
-
-  decided-requires-2 : lts.Need-decided-requires-2 (claims t) (at t) reads.Post
-  decided-requires-2 c κs = tt
 
   returns-2 : lts.Need-returns-2 (claims t) (at t) reads.Post
   returns-2 c =
       let a = c .before .before .same3 .ensures in
       allow-judged _ (c .before .same4 .ensures) a (c .before .before .before .if2 .taken) (c .decided2 .ensures)
 
-  add-judge-target : lts.Need-add-judge-target (claims t) (at t) reads.Post
-  add-judge-target c = omega (arith, has-room (c .before .before .before .before .before .before .pre .1 .0))
-
-  sub-judge-target : lts.Need-sub-judge-target (claims t) (at t) reads.Post
-  sub-judge-target c = has-left (c .before .before .before .before .before .before .pre .1 .0)
-
   judge-target-requires : lts.Need-judge-target-requires (claims t) (at t) reads.Post
   judge-target-requires c κs =
       let h = c .before .before .before .before .before .before .pre .1 in (parts aTargeted (c .if3 .taken) (h .0) .0, h .1)
-
-  sub-judge-policy : lts.Need-sub-judge-policy (claims t) (at t) reads.Post
-  sub-judge-policy c = has-left (c .before .before .before .before .before .before .before .pre .1 .0)
 
   judge-policy-requires : lts.Need-judge-policy-requires (claims t) (at t) reads.Post
   judge-policy-requires c κs =
@@ -128,24 +92,12 @@ module _ (t : ℕ) where
       let g = c .before .judge-policy .ensures in
       targeted-judged _ _ _ (c .before .before .before .if3 .taken) f g (c .targeted .ensures)
 
-  add-judge-policy : lts.Need-add-judge-policy (claims t) (at t) reads.Post
-  add-judge-policy c = omega (arith, has-room (c .before .before .before .before .before .before .pre .1 .0))
-
-  sub-judge-policy-2 : lts.Need-sub-judge-policy-2 (claims t) (at t) reads.Post
-  sub-judge-policy-2 c = has-left (c .before .before .before .before .before .before .pre .1 .0)
-
   judge-policy-requires-2 : lts.Need-judge-policy-requires-2 (claims t) (at t) reads.Post
   judge-policy-requires-2 c κs =
       let h = c .before .before .before .before .before .before .pre in for-part h (has-first (h .1 .0) (inner-byte c))
 
   returns-4 : lts.Need-returns-4 (claims t) (at t) reads.Post
   returns-4 c = policy-not-judged _ (c .before .before .before .before .judge-policy2 .ensures) (c .if4 .taken)
-
-  or-requires : lts.Need-or-requires (claims t) (at t) reads.Post
-  or-requires c κs = tt
-
-  decided-requires-3 : lts.Need-decided-requires-3 (claims t) (at t) reads.Post
-  decided-requires-3 c κs = tt
 
   returns-5 : lts.Need-returns-5 (claims t) (at t) reads.Post
   returns-5 c =
@@ -178,30 +130,30 @@ pub +judge-policy-spec : {M : Type 1} → statement M
 +judge-policy-spec = close μ λ t. lts.spec (claims t)
     (at t)
     reads.Post
-    (shared-slice-read-tag t)
-    (same-requires t)
-    (same-requires-2 t)
-    (add-decided t)
-    (decided-requires t)
+    (λ c. has-room (c .before .before .before .pre .1 .0))
+    (λ c κs. tt)
+    (λ c κs. tt)
+    (λ c. omega (arith, has-room (c .before .before .before .before .before .before .pre .1 .0)))
+    (λ c κs. tt)
     (returns t)
-    (same-requires-3 t)
-    (same-requires-4 t)
-    (add-decided-2 t)
-    (decided-requires-2 t)
+    (λ c κs. tt)
+    (λ c κs. tt)
+    (λ c. omega (arith, has-room (c .before .before .before .before .before .before .before .pre .1 .0)))
+    (λ c κs. tt)
     (returns-2 t)
-    (add-judge-target t)
-    (sub-judge-target t)
+    (λ c. omega (arith, has-room (c .before .before .before .before .before .before .pre .1 .0)))
+    (λ c. has-left (c .before .before .before .before .before .before .pre .1 .0))
     (judge-target-requires t)
-    (sub-judge-policy t)
+    (λ c. has-left (c .before .before .before .before .before .before .before .pre .1 .0))
     (judge-policy-requires t)
     (targeted-requires t)
     (returns-3 t)
-    (add-judge-policy t)
-    (sub-judge-policy-2 t)
+    (λ c. omega (arith, has-room (c .before .before .before .before .before .before .pre .1 .0)))
+    (λ c. has-left (c .before .before .before .before .before .before .pre .1 .0))
     (judge-policy-requires-2 t)
     (returns-4 t)
-    (or-requires t)
-    (decided-requires-3 t)
+    (λ c κs. tt)
+    (λ c κs. tt)
     (returns-5 t)
     (sub-judge-policy-3 t)
     (judge-policy-requires-3 t)

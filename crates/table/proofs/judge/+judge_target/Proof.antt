@@ -56,9 +56,6 @@ module _ (t : ℕ) where
       let h = c .before .before .before .before .before .before .before .before .before .pre .1 .0 in
       has-and-tag (has-inner h (c .before .before .before .before .before .if1 .left)) (c .before .if2 .left) (c .if3 .left)
 
-  shared-slice-read-tag : lts.Need-shared-slice-read-tag (claims t) (at t) reads.Post
-  shared-slice-read-tag c = has-room (c .before .before .before .pre .1 .0)
-
   add-pair : lts.Need-add-pair (claims t) (at t) reads.Post
   add-pair c = omega (arith, parts anAtom (c .if1 .taken) (c .before .before .before .before .pre .1 .0))
 
@@ -77,12 +74,6 @@ module _ (t : ℕ) where
       let bs = lent-bytes (c .before .before .before .before .before .shared-slice-known .given) in
       (atom-judged _ bs (c .before .before .if1 .taken) (c .before .pair .ensures) (a .0) (a .2), a .1)
 
-  add-judge-target : lts.Need-add-judge-target (claims t) (at t) reads.Post
-  add-judge-target c = omega (arith, has-room (c .before .before .before .before .pre .1 .0))
-
-  sub-judge-target : lts.Need-sub-judge-target (claims t) (at t) reads.Post
-  sub-judge-target c = has-left (c .before .before .before .before .pre .1 .0)
-
   judge-target-requires : lts.Need-judge-target-requires (claims t) (at t) reads.Post
   judge-target-requires c κs =
       let h = c .before .before .before .before .pre in for-part h (has-first (h .1 .0) (has-inner (h .1 .0) (c .if1 .left)))
@@ -90,26 +81,14 @@ module _ (t : ℕ) where
   returns-2 : lts.Need-returns-2 (claims t) (at t) reads.Post
   returns-2 c = not-judged _ (c .before .before .before .judge-target .ensures) (c .if2 .taken)
 
-  not-requires : lts.Need-not-requires (claims t) (at t) reads.Post
-  not-requires c κs = tt
-
   returns-3 : lts.Need-returns-3 (claims t) (at t) reads.Post
   returns-3 c =
       default-judged _ (c .before .before .before .before .before .judge-target .ensures) (c .before .if3 .taken) (c .not .ensures)
-
-  sub-judge-target-2 : lts.Need-sub-judge-target-2 (claims t) (at t) reads.Post
-  sub-judge-target-2 c = has-left (c .before .before .before .before .before .before .before .before .before .pre .1 .0)
 
   judge-target-requires-2 : lts.Need-judge-target-requires-2 (claims t) (at t) reads.Post
   judge-target-requires-2 c κs =
       let h = c .before .before .before .before .before .before .before .before .before .pre in
       for-part h (parts (anAnd target) (and-byte c) (h .1 .0) .1 _ (target-ends (c .before .before .before .before .judge-target .ensures .0)))
-
-  and-requires : lts.Need-and-requires (claims t) (at t) reads.Post
-  and-requires c κs = tt
-
-  or-requires : lts.Need-or-requires (claims t) (at t) reads.Post
-  or-requires c κs = tt
 
   returns-4 : lts.Need-returns-4 (claims t) (at t) reads.Post
   returns-4 c =
@@ -121,20 +100,20 @@ pub +judge-target-spec : {M : Type 1} → statement M
 +judge-target-spec = close μ λ t. lts.spec (claims t)
     (at t)
     reads.Post
-    (shared-slice-read-tag t)
+    (λ c. has-room (c .before .before .before .pre .1 .0))
     (add-pair t)
     (pair-requires t)
     (add-atom t)
     (atom-requires t)
     (returns t)
-    (add-judge-target t)
-    (sub-judge-target t)
+    (λ c. omega (arith, has-room (c .before .before .before .before .pre .1 .0)))
+    (λ c. has-left (c .before .before .before .before .pre .1 .0))
     (judge-target-requires t)
     (returns-2 t)
-    (not-requires t)
+    (λ c κs. tt)
     (returns-3 t)
-    (sub-judge-target-2 t)
+    (λ c. has-left (c .before .before .before .before .before .before .before .before .before .pre .1 .0))
     (judge-target-requires-2 t)
-    (and-requires t)
-    (or-requires t)
+    (λ c κs. tt)
+    (λ c κs. tt)
     (returns-4 t)

@@ -19,41 +19,8 @@ Inv-loop pairs rows pair next held₀ named₀ i₀ held named i =
 abbrev μ-loop : tie.MeasureT-loop
 μ-loop pairs rows pair next held₀ named₀ i₀ held named i = length pairs - i
 
-same-requires : tie.Need-same-requires Inv-loop μ-loop
-same-requires c κs = search needs
-
-same-requires-2 : tie.Need-same-requires-2 Inv-loop μ-loop
-same-requires-2 c κs = search needs
-
 loop-holds : tie.Need-loop-holds Inv-loop μ-loop
 loop-holds c = (pass-start _ _ _ (c .before .same .ensures), pass-start _ _ _ (c .same2 .ensures))
-
-mul-if1 : tie.Need-mul-if1 Inv-loop μ-loop
-mul-if1 c = search needs
-
-shared-slice-read-if1 : tie.Need-shared-slice-read-if1 Inv-loop μ-loop
-shared-slice-read-if1 c = search needs
-
-row-of-requires : tie.Need-row-of-requires Inv-loop μ-loop
-row-of-requires c κs = search needs
-
-or-requires : tie.Need-or-requires Inv-loop μ-loop
-or-requires c κs = search needs
-
-mul-if2 : tie.Need-mul-if2 Inv-loop μ-loop
-mul-if2 c = search needs
-
-shared-slice-read-if2 : tie.Need-shared-slice-read-if2 Inv-loop μ-loop
-shared-slice-read-if2 c = search needs
-
-or-requires-2 : tie.Need-or-requires-2 Inv-loop μ-loop
-or-requires-2 c κs = search needs
-
-add-i : tie.Need-add-i Inv-loop μ-loop
-add-i c = search needs
-
-loop-less : tie.Need-loop-less Inv-loop μ-loop
-loop-less c = search needs
 
 loop-again : tie.Need-loop-again Inv-loop μ-loop
 loop-again c =
@@ -75,12 +42,6 @@ loop-again c =
     )))
     (c .if1 .came)
 
-not-requires : tie.Need-not-requires Inv-loop μ-loop
-not-requires c κs = search needs
-
-and-requires : tie.Need-and-requires Inv-loop μ-loop
-and-requires c κs = search needs
-
 returns : tie.Need-returns Inv-loop μ-loop
 returns c =
     let v = c .before .before .before .loop .inv in
@@ -93,19 +54,19 @@ atom-spec =
     (tie.spec
     Inv-loop
     μ-loop
-    same-requires
-    same-requires-2
+    (λ c κs. search needs)
+    (λ c κs. search needs)
     loop-holds
-    mul-if1
-    shared-slice-read-if1
-    row-of-requires
-    or-requires
-    mul-if2
-    shared-slice-read-if2
-    or-requires-2
-    add-i
-    loop-less
+    (λ c. search needs)
+    (λ c. search needs)
+    (λ c κs. search needs)
+    (λ c κs. search needs)
+    (λ c. search needs)
+    (λ c. search needs)
+    (λ c κs. search needs)
+    (λ c. search needs)
+    (λ c. search needs)
     loop-again
-    not-requires
-    and-requires
+    (λ c κs. search needs)
+    (λ c κs. search needs)
     returns)
