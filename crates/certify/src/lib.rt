@@ -4,6 +4,7 @@ ghost use Rattle.ptacl.specs.Term.{target, policy};
 ghost use Rattle.ptacl.specs.Rules.{allows, denies, never, base, given, certificate};
 ghost use Rattle.files.specs.Places.{Has};
 ghost use Rattle.certify.specs.Judged.{Behind, Judged, PolicyBytes, Lacks, NodeRule};
+use files::tags;
 
 // Whether a policy has a property, and the place behind it.
 pub struct Verdict {
@@ -23,11 +24,11 @@ fn skip_target(file: &[u8], at: usize, left: usize) -> usize
     ensures { λ r. ⌜ Behind target (now (file .entry)) at r ⌝ }
 {
     let tag = file[at];
-    if tag == 0x10 {
+    if tag == tags::TARGET_ATOM {
         return at + 5;
     }
     let next = skip_target(file, at + 1, left - 1);
-    if tag == 0x13 {
+    if tag == tags::TARGET_AND {
         return skip_target(file, next, left - 1);
     }
     next
@@ -42,14 +43,14 @@ fn never_allows(file: &[u8], at: usize, left: usize) -> Verdict
     let next = at + 1;
     let below = left - 1;
     match tag {
-        0x20 => Verdict { holds: true, next },
-        0x21 => Verdict { holds: false, next },
-        0x22 => {
+        tags::DENY => Verdict { holds: true, next },
+        tags::ALLOW => Verdict { holds: false, next },
+        tags::TARGETED => {
             let body = skip_target(file, next, below);
             never_allows(file, body, below)
         }
-        0x23 => never_denies(file, next, below),
-        0x24 => never_allows(file, next, below),
+        tags::POLICY_NOT => never_denies(file, next, below),
+        tags::DENY_BY_DEFAULT => never_allows(file, next, below),
         _ => {
             let first = never_allows(file, next, below);
             let middle = first.next;
@@ -74,14 +75,14 @@ fn never_denies(file: &[u8], at: usize, left: usize) -> Verdict
     let next = at + 1;
     let below = left - 1;
     match tag {
-        0x20 => Verdict { holds: false, next },
-        0x21 => Verdict { holds: true, next },
-        0x22 => {
+        tags::DENY => Verdict { holds: false, next },
+        tags::ALLOW => Verdict { holds: true, next },
+        tags::TARGETED => {
             let body = skip_target(file, next, below);
             never_denies(file, body, below)
         }
-        0x23 => never_allows(file, next, below),
-        0x24 => {
+        tags::POLICY_NOT => never_allows(file, next, below),
+        tags::DENY_BY_DEFAULT => {
             let body = never_denies(file, next, below);
             Verdict {
                 holds: false, // what is undefined comes to deny
@@ -113,7 +114,7 @@ fn lacks(term: &[u8], tag: u8) -> bool
         if term[at] == tag {
             return false;
         }
-        if term[at] == 0x10 {
+        if term[at] == tags::TARGET_ATOM {
             at += 5;
         } else {
             at += 1;
@@ -127,16 +128,16 @@ fn by_nodes(term: &[u8]) -> u8
     requires { ⌜ PolicyBytes (now term) ⌝ }
     ensures { λ r. ⌜ NodeRule (now (term .entry)) r ⌝ }
 {
-    if lacks(term, 0x22) {
+    if lacks(term, tags::TARGETED) {
         return 2;
     }
-    if !lacks(term, 0x11) {
+    if !lacks(term, tags::TARGET_NOT) {
         return 0;
     }
-    if lacks(term, 0x24) {
+    if lacks(term, tags::DENY_BY_DEFAULT) {
         return 3;
     }
-    if lacks(term, 0x23) {
+    if lacks(term, tags::POLICY_NOT) {
         return 4;
     }
     0
@@ -178,14 +179,14 @@ pub fn certificate_at(file: &[u8], at: usize, left: usize) -> Certificate
     let next = at + 1;
     let below = left - 1;
     match tag {
-        0x24 => {
+        tags::DENY_BY_DEFAULT => {
             let body = certificate_at(file, next, below);
             Certificate {
                 number: given(body.number, 5),
                 next: body.next,
             }
         }
-        0x25 => {
+        tags::POLICY_AND => {
             let first = certificate_at(file, next, below);
             let middle = first.next;
             let second = certificate_at(file, middle, below);

@@ -3,4 +3,5 @@ pub mod bytes;
 pub mod frame;
 pub mod policy;
 pub mod request;
+pub mod tags;
 pub mod write;

@@ -9,6 +9,7 @@ ghost use Rattle.files.specs.Places.{PolicyFile, BodyOf};
 ghost use Rattle.files.specs.Cases.{sortOf, byteOf, headOf, seen, policyRead};
 use crate::frame;
 use crate::frame::Frame;
+use crate::tags;
 
 pub enum Sort {
     Target,
@@ -50,10 +51,10 @@ fn target_byte(b: u8) -> Byte
     ensures { λ r. ⌜ r ≡ byteOf (byteAt target b) ⌝ }
 {
     match b {
-        0x10 => Byte::Tag(Shape::Numbers),
-        0x11 => Byte::Tag(Shape::One),
-        0x12 => Byte::Tag(Shape::One),
-        0x13 => Byte::Tag(Shape::Two(Sort::Target)),
+        tags::TARGET_ATOM => Byte::Tag(Shape::Numbers),
+        tags::TARGET_NOT => Byte::Tag(Shape::One),
+        tags::TARGET_OPTIONAL => Byte::Tag(Shape::One),
+        tags::TARGET_AND => Byte::Tag(Shape::Two(Sort::Target)),
         _ => Byte::Unknown,
     }
 }
@@ -62,12 +63,12 @@ fn policy_byte(b: u8) -> Byte
     ensures { λ r. ⌜ r ≡ byteOf (byteAt policy b) ⌝ }
 {
     match b {
-        0x20 => Byte::Tag(Shape::Leaf),
-        0x21 => Byte::Tag(Shape::Leaf),
-        0x22 => Byte::Tag(Shape::Two(Sort::Target)),
-        0x23 => Byte::Tag(Shape::One),
-        0x24 => Byte::Tag(Shape::One),
-        0x25 => Byte::Tag(Shape::Two(Sort::Policy)),
+        tags::DENY => Byte::Tag(Shape::Leaf),
+        tags::ALLOW => Byte::Tag(Shape::Leaf),
+        tags::TARGETED => Byte::Tag(Shape::Two(Sort::Target)),
+        tags::POLICY_NOT => Byte::Tag(Shape::One),
+        tags::DENY_BY_DEFAULT => Byte::Tag(Shape::One),
+        tags::POLICY_AND => Byte::Tag(Shape::Two(Sort::Policy)),
         _ => Byte::Unknown,
     }
 }

@@ -13,6 +13,7 @@ ghost use Rattle.files.specs.Places.{Has, Encoded};
 ghost use Rattle.table.specs.Rows.{lane, rowOf, RowIs, request, valueAt, Apart, setAt, setBy, SomeAt, ValuesAre, SetsAre, TargetRows, PolicyRows, PairRows, AllowedRow};
 use crate::row::ONES;
 use crate::row::Row;
+use files::tags;
 
 // A target: where it is 1, and where it is 0.
 pub struct TargetRow {
@@ -80,21 +81,21 @@ fn judge_target(file: &[u8], at: usize, left: usize, pairs: &[u32], rows: &[u64;
     ensures { λ r. ⌜ TargetRows (now (file .entry)) at (now (pairs .entry)) (now (rows .entry)) r × Apart r ⌝ }
 {
     let tag = file[at];
-    if tag == 0x10 {
+    if tag == tags::TARGET_ATOM {
         return atom(pairs, rows, files::bytes::pair(file, at + 1), at + 5);
     }
     let first = judge_target(file, at + 1, left - 1, pairs, rows);
     let is1 = first.is1;
     let is0 = first.is0;
     let next = first.next;
-    if tag == 0x11 {
+    if tag == tags::TARGET_NOT {
         return TargetRow {
             is1: is0,
             is0: is1,
             next,
         };
     }
-    if tag == 0x12 {
+    if tag == tags::TARGET_OPTIONAL {
         return TargetRow {
             is1,
             is0: is1.not(),
@@ -172,13 +173,13 @@ fn judge_policy(file: &[u8], at: usize, left: usize, pairs: &[u32], rows: &[u64;
     ensures { λ r. ⌜ PolicyRows (now (file .entry)) at (now (pairs .entry)) (now (rows .entry)) r ⌝ }
 {
     let tag = file[at];
-    if tag == 0x20 {
+    if tag == tags::DENY {
         return decided(Row::same(0), Row::same(ONES), at + 1);
     }
-    if tag == 0x21 {
+    if tag == tags::ALLOW {
         return decided(Row::same(ONES), Row::same(0), at + 1);
     }
-    if tag == 0x22 {
+    if tag == tags::TARGETED {
         let target = judge_target(file, at + 1, left - 1, pairs, rows);
         let middle = target.next;
         let body = judge_policy(file, middle, left - 1, pairs, rows);
@@ -189,7 +190,7 @@ fn judge_policy(file: &[u8], at: usize, left: usize, pairs: &[u32], rows: &[u64;
     let deny = first.deny;
     let undefined = first.undefined;
     let next = first.next;
-    if tag == 0x23 {
+    if tag == tags::POLICY_NOT {
         return PolicyRow {
             allow: deny,
             deny: allow,
@@ -197,7 +198,7 @@ fn judge_policy(file: &[u8], at: usize, left: usize, pairs: &[u32], rows: &[u64;
             next,
         };
     }
-    if tag == 0x24 {
+    if tag == tags::DENY_BY_DEFAULT {
         return decided(allow, deny.or(undefined), next);
     }
     let second = judge_policy(file, next, left - 1, pairs, rows);
