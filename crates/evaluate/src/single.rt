@@ -8,6 +8,7 @@ ghost use Rattle.files.specs.Places.{Has, numbersOf};
 ghost use Rattle.evaluate.specs.Ordered.{OrderedFile};
 ghost use Rattle.evaluate.specs.Evaluated.{Evaluated};
 use crate::order;
+use files::tags;
 use ptacl::DecisionSet;
 use ptacl::TargetValue;
 
@@ -27,7 +28,7 @@ pub fn eval_target(file: &[u8], at: usize, left: usize, request: &[u8]) -> Targe
     ensures { λ r. ⌜ Evaluated target (now (file .entry)) at (map unpacked (numbersOf (now (request .entry)))) (valueOf (r .value)) (r .next) ⌝ }
 {
     let tag = file[at];
-    if tag == 0x10 {
+    if tag == tags::TARGET_ATOM {
         return TargetAt {
             value: order::atom(request, files::bytes::pair(file, at + 1)),
             next: at + 5,
@@ -36,13 +37,13 @@ pub fn eval_target(file: &[u8], at: usize, left: usize, request: &[u8]) -> Targe
     let first = eval_target(file, at + 1, left - 1, request);
     let value = first.value;
     let next = first.next;
-    if tag == 0x11 {
+    if tag == tags::TARGET_NOT {
         return TargetAt {
             value: value.not(),
             next,
         };
     }
-    if tag == 0x12 {
+    if tag == tags::TARGET_OPTIONAL {
         return TargetAt {
             value: value.optional(),
             next,
@@ -62,19 +63,19 @@ pub fn eval_policy(file: &[u8], at: usize, left: usize, request: &[u8]) -> Polic
     ensures { λ r. ⌜ Evaluated policy (now (file .entry)) at (map unpacked (numbersOf (now (request .entry)))) (r .set .code) (r .next) ⌝ }
 {
     let tag = file[at];
-    if tag == 0x20 {
+    if tag == tags::DENY {
         return PolicyAt {
             set: DecisionSet::DENY,
             next: at + 1,
         };
     }
-    if tag == 0x21 {
+    if tag == tags::ALLOW {
         return PolicyAt {
             set: DecisionSet::ALLOW,
             next: at + 1,
         };
     }
-    if tag == 0x22 {
+    if tag == tags::TARGETED {
         let target = eval_target(file, at + 1, left - 1, request);
         let value = target.value;
         let middle = target.next;
@@ -88,13 +89,13 @@ pub fn eval_policy(file: &[u8], at: usize, left: usize, request: &[u8]) -> Polic
     let first = eval_policy(file, at + 1, left - 1, request);
     let set = first.set;
     let next = first.next;
-    if tag == 0x23 {
+    if tag == tags::POLICY_NOT {
         return PolicyAt {
             set: set.not(),
             next,
         };
     }
-    if tag == 0x24 {
+    if tag == tags::DENY_BY_DEFAULT {
         return PolicyAt {
             set: set.deny_by_default(),
             next,
