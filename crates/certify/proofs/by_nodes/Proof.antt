@@ -20,30 +20,18 @@ past c = (
   rw (not-false (c .before .lacks2 .result) (c .if2 .left)) at (c .before .lacks2 .ensures),
 )
 
-lacks-requires : tie.Need-lacks-requires
-lacks-requires c κs = search needs
-
 returns : tie.Need-returns
 returns c = rule-2 (rw (c .if1 .taken) at (c .before .lacks .ensures))
-
-lacks-requires-2 : tie.Need-lacks-requires-2
-lacks-requires-2 c κs = search needs
 
 returns-2 : tie.Need-returns-2
 returns-2 c = not-plain
     (rw (c .before .before .if1 .left) at (c .before .before .before .lacks .ensures))
     (rw (not-true (c .before .lacks2 .result) (c .if2 .taken)) at (c .before .lacks2 .ensures))
 
-lacks-requires-3 : tie.Need-lacks-requires-3
-lacks-requires-3 c κs = search needs
-
 returns-3 : tie.Need-returns-3
 returns-3 c =
     let k = past (c .before .before) in
     rule-3 (k .0) (k .1) (rw (c .if3 .taken) at (c .before .lacks3 .ensures))
-
-lacks-requires-4 : tie.Need-lacks-requires-4
-lacks-requires-4 c κs = search needs
 
 returns-4 : tie.Need-returns-4
 returns-4 c =
@@ -63,12 +51,12 @@ pub by-nodes-spec : {M : Type 1} → statement M
 by-nodes-spec =
     tie.close
     (tie.spec
-    lacks-requires
+    (λ c κs. search needs)
     returns
-    lacks-requires-2
+    (λ c κs. search needs)
     returns-2
-    lacks-requires-3
+    (λ c κs. search needs)
     returns-3
-    lacks-requires-4
+    (λ c κs. search needs)
     returns-4
     returns-5)

@@ -8,19 +8,19 @@ use Rattle.files.specs.ReadPolicy.{pairAt}
 use Rattle.files.proofs.policy.read_numbers.Statement.{statement}
 use Rattle.files.proofs.policy.read_numbers.Tie as tie
 
-sub-if1 : tie.Need-sub-if1
-sub-if1 c = search needs
-
 returns : tie.Need-returns
 unfolding pairAt
 returns c = simp (le-ltb (c .before .args .at + 3) (length (c .before .args .file .now)) (omega arith))
-
-add-t5 : tie.Need-add-t5
-add-t5 c = search needs
 
 returns-2 : tie.Need-returns-2
 unfolding pairAt
 returns-2 c = simp (lt-ltb (c .before .args .at + 3) (length (c .before .args .file .now)) (omega arith))
 
 pub read-numbers-spec : {M : Type 1} → statement M
-read-numbers-spec = tie.close (tie.spec sub-if1 returns add-t5 returns-2)
+read-numbers-spec =
+    tie.close
+    (tie.spec
+    (λ c. search needs)
+    returns
+    (λ c. search needs)
+    returns-2)

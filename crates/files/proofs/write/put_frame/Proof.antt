@@ -7,23 +7,8 @@ use borrow.Author.Needs.{needs}
 use Rattle.files.proofs.write.put_frame.Statement.{statement}
 use Rattle.files.proofs.write.put_frame.Tie as tie
 
-slice-write-space : tie.Need-slice-write-space
-slice-write-space c = search needs
-
-cast-space : tie.Need-cast-space
-cast-space c = search needs
-
 slice-write-space-2 : tie.Need-slice-write-space-2
 slice-write-space-2 c = simp length-set (omega arith)
-
-cast-space-2 : tie.Need-cast-space-2
-cast-space-2 c = search needs
-
-slice-write-space-3 : tie.Need-slice-write-space-3
-slice-write-space-3 c = search needs
-
-same-length : tie.Need-same-length
-same-length c = search needs
 
 returns : tie.Need-returns
 returns c = three-stores (c .args .space .now) 1 (c .args .body / 256) (c .args .body % 256) (c .pre .0)
@@ -32,10 +17,10 @@ pub put-frame-spec : {M : Type 1} → statement M
 put-frame-spec =
     tie.close
     (tie.spec
-    slice-write-space
-    cast-space
+    (λ c. search needs)
+    (λ c. search needs)
     slice-write-space-2
-    cast-space-2
-    slice-write-space-3
-    same-length
+    (λ c. search needs)
+    (λ c. search needs)
+    (λ c. search needs)
     returns)

@@ -9,41 +9,14 @@ use borrow.Author.Needs.{needs}
 use Rattle.files.proofs.write.put_pair.Statement.{statement}
 use Rattle.files.proofs.write.put_pair.Tie as tie
 
-cast-space : tie.Need-cast-space
-cast-space c = search needs
-
-slice-write-space : tie.Need-slice-write-space
-slice-write-space c = search needs
-
-cast-space-2 : tie.Need-cast-space-2
-cast-space-2 c = search needs
-
-add-space : tie.Need-add-space
-add-space c = search needs
-
 slice-write-space-2 : tie.Need-slice-write-space-2
 slice-write-space-2 c = simp length-set (omega arith)
-
-cast-space-3 : tie.Need-cast-space-3
-cast-space-3 c = search needs
-
-add-space-2 : tie.Need-add-space-2
-add-space-2 c = search needs
 
 slice-write-space-3 : tie.Need-slice-write-space-3
 slice-write-space-3 c = simp length-set (omega arith)
 
-cast-space-4 : tie.Need-cast-space-4
-cast-space-4 c = search needs
-
-add-space-3 : tie.Need-add-space-3
-add-space-3 c = search needs
-
 slice-write-space-4 : tie.Need-slice-write-space-4
 slice-write-space-4 c = simp length-set (omega arith)
-
-same-length : tie.Need-same-length
-same-length c = search needs
 
 returns : tie.Need-returns
 unfolding pairBytes
@@ -58,16 +31,16 @@ pub put-pair-spec : {M : Type 1} → statement M
 put-pair-spec =
     tie.close
     (tie.spec
-    cast-space
-    slice-write-space
-    cast-space-2
-    add-space
+    (λ c. search needs)
+    (λ c. search needs)
+    (λ c. search needs)
+    (λ c. search needs)
     slice-write-space-2
-    cast-space-3
-    add-space-2
+    (λ c. search needs)
+    (λ c. search needs)
     slice-write-space-3
-    cast-space-4
-    add-space-3
+    (λ c. search needs)
+    (λ c. search needs)
     slice-write-space-4
-    same-length
+    (λ c. search needs)
     returns)

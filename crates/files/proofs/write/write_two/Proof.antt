@@ -10,27 +10,6 @@ use borrow.Author.Needs.{needs}
 use Rattle.files.proofs.write.write_two.Statement.{statement}
 use Rattle.files.proofs.write.write_two.Tie as tie
 
-write-request-requires : tie.Need-write-request-requires
-write-request-requires c κs = search needs
-
-sub-write-request : tie.Need-sub-write-request
-sub-write-request c = search needs
-
-part-write-request-start : tie.Need-part-write-request-start
-part-write-request-start c = search needs
-
-part-write-request-end : tie.Need-part-write-request-end
-part-write-request-end c = search needs
-
-write-request-requires-2 : tie.Need-write-request-requires-2
-write-request-requires-2 c κs = search needs
-
-add-result : tie.Need-add-result
-add-result c = search needs
-
-same-length : tie.Need-same-length
-same-length c = search needs
-
 returns : tie.Need-returns
 returns c =
     let w = c .before .before .before .before .before .before .write-request in
@@ -43,11 +22,11 @@ pub write-two-spec : {M : Type 1} → statement M
 write-two-spec =
     tie.close
     (tie.spec
-    write-request-requires
-    sub-write-request
-    part-write-request-start
-    part-write-request-end
-    write-request-requires-2
-    add-result
-    same-length
+    (λ c κs. search needs)
+    (λ c. search needs)
+    (λ c. search needs)
+    (λ c. search needs)
+    (λ c κs. search needs)
+    (λ c. search needs)
+    (λ c. search needs)
     returns)

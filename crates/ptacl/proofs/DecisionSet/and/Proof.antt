@@ -22,21 +22,16 @@ conjunction =
     ∷ 0 ∷ 6 ∷ 2 ∷ 6 ∷ 6 ∷ 6 ∷ 6 ∷ 6
     ∷ 0 ∷ 7 ∷ 2 ∷ 7 ∷ 6 ∷ 7 ∷ 6 ∷ 7 ∷ []
 
-mul-at : tie.Need-mul-at
-mul-at c = search needs
-
-add-at : tie.Need-add-at
-add-at c = search needs
-
-cast-at : tie.Need-cast-at
-cast-at c = search needs
-
-array-read-t6 : tie.Need-array-read-t6
-array-read-t6 c = search needs
-
 returns : tie.Need-returns
 returns c =
     let a = c .before .before .args in of-codes (λ i j. getD conjunction (i * 8 + j) 0) (each2 andV) refl (a .self .code) (a .other .code)
 
 pub and-spec : {M : Type 1} → statement M
-and-spec = tie.close (tie.spec mul-at add-at cast-at array-read-t6 returns)
+and-spec =
+    tie.close
+    (tie.spec
+    (λ c. search needs)
+    (λ c. search needs)
+    (λ c. search needs)
+    (λ c. search needs)
+    returns)

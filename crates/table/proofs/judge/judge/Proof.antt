@@ -8,13 +8,10 @@ use Rattle.table.proofs.judge.judge.Tie as tie
 judge-policy-requires : tie.Need-judge-policy-requires
 judge-policy-requires c κs = (body-has (c .before .before .pre .0), c .before .before .pre .1)
 
-only-allow-requires : tie.Need-only-allow-requires
-only-allow-requires c κs = search needs
-
 returns : tie.Need-returns
 returns c =
     let p = c .before .before .before .before .pre in
     allowed-judged (p .2) (p .1) (c .before .judge-policy .ensures) (c .only-allow .ensures)
 
 pub judge-spec : {M : Type 1} → statement M
-judge-spec = tie.close (tie.spec judge-policy-requires only-allow-requires returns)
+judge-spec = tie.close (tie.spec judge-policy-requires (λ c κs. search needs) returns)

@@ -4,17 +4,14 @@ use Rattle.table.proofs.Lanes.{only-law}
 use Rattle.table.proofs.judge.only_allow.Statement.{statement}
 use Rattle.table.proofs.judge.only_allow.Tie as tie
 
-or-requires : tie.Need-or-requires
-or-requires c κs = search needs
-
-not-requires : tie.Need-not-requires
-not-requires c κs = search needs
-
-and-requires : tie.Need-and-requires
-and-requires c κs = search needs
-
 returns : tie.Need-returns
 returns c = only-law _ (c .before .before .or .ensures) (c .before .not .ensures) (c .and .ensures)
 
 pub only-allow-spec : {M : Type 1} → statement M
-only-allow-spec = tie.close (tie.spec or-requires not-requires and-requires returns)
+only-allow-spec =
+    tie.close
+    (tie.spec
+    (λ c κs. search needs)
+    (λ c κs. search needs)
+    (λ c κs. search needs)
+    returns)
