@@ -1,6 +1,6 @@
 -- What an operation knows of its files once they were accepted: the policy and the request that they hold.
 use Prim.Native.Nat.{ℕ}
-use mathlib.Core.Path.{_≡_, ap}
+use mathlib.Core.Path.{_≡_, refl, ap, _∙_}
 use mathlib.Core.List.{List, map}
 use native.Mathlib.Omega.{arith}
 use mir.Syntax.{w8}
@@ -10,16 +10,21 @@ use Rattle.ptacl.specs.Request.{Request}
 use Rattle.ptacl.specs.Term.{Policy}
 use Rattle.ptacl.specs.Pairs.{unpacked}
 use Rattle.files.specs.Encoding.{enc, framed, requestFile, IsPolicy, IsRequest}
+use Rattle.files.specs.Refusal.{Read, accepted, refused}
 use Rattle.files.specs.ReadPolicy.{readPolicy}
 use Rattle.files.specs.ReadRequest.{readRequest}
 use Rattle.files.specs.Places.{At, PolicyFile, BodyOf, Encoded, numbersOf}
-use Rattle.files.specs.Cases.{policyRead, requestRead}
+use Rattle.files.specs.Cases.{policyRead}
 use Rattle.files.specs.declared.policy.PolicyRead.{PolicyRead}
-use Rattle.files.specs.declared.request.RequestRead.{RequestRead}
 use Rattle.files.proofs.Framing.{lent-bytes}
-use Rattle.files.proofs.RequestExact.{request-exact, request-accepted, numbers-request}
+use Rattle.files.proofs.PolicyExact.{policy-exact}
+use Rattle.files.proofs.RequestExact.{request-exact, numbers-request}
 use Rattle.files.proofs.View.{policy-file, body-encoded, body-at}
 use Rattle.evaluate.specs.Ordered.{OrderedFile}
+use Rattle.sinkheron.specs.declared.FilesRead.{FilesRead}
+use Rattle.sinkheron.specs.Files.{filesRead}
+use Rattle.sinkheron.specs.Answer.{refusal, Promise}
+use Rattle.sinkheron.specs.Ways.{OfPolicy, OfRequest, unread, holding}
 
 pub policy-taken : {s : List ℕ} → ((i : ℕ) → Fits w8 (getD s i 0)) → policyRead (readPolicy s) ≡ PolicyRead.Accepted → PolicyFile s
 policy-taken b e = policy-file (lent-bytes b) e
@@ -43,15 +48,38 @@ pub record Sent (s : List ℕ) : Type 0 where
   pub pairs : map unpacked (numbersOf s) ≡ request
   pub ordered : OrderedFile s
 
-pub request-sent : {s : List ℕ} → ((i : ℕ) → Fits w8 (getD s i 0)) → requestRead (readRequest s) ≡ RequestRead.Accepted → Sent s
+request-sent : {s : List ℕ} {q : Request} → ((i : ℕ) → Fits w8 (getD s i 0)) → readRequest s ≡ accepted q → Sent s
 unfolding requestFile framed
-request-sent {s} b e =
-    let a = request-accepted s e in
-    let i = request-exact s (lent-bytes b) (a .0) .0 (a .1) in
+request-sent {s} {q} b e =
+    let i = request-exact s (lent-bytes b) q .0 e in
     let n = numbers-request i in
     record {
-      request = a .0;
+      request = q;
       file = i;
       pairs = n;
       ordered = record { long = omega (arith, ap length (i .file)); ordered = record { rises = rw n (i .fits .ordered) } };
     }
+
+same-refusal : {A : Type 0} {m b n at : ℕ} → FilesRead.Refused m b ≡ FilesRead.Refused n at → _≡_ {A = Read A} (refused m b) (refused n at)
+same-refusal e = cc
+
+-- both files: the first refusal, or the policy and the request
+module _ {s t : List ℕ} (bytes : (i : ℕ) → Fits w8 (getD s i 0)) where
+  pub files-refused : {A M : Type 0} {before : M} {follows : Policy → Request → Promise A M} {n at : ℕ}
+      → filesRead (readPolicy s) (readRequest t) ≡ FilesRead.Refused n at
+      → OfPolicy s before (λ p. OfRequest t before (follows p)) (refusal n at) before
+  files-refused {before = before} {follows = follows} {n = n} {at = at} e = go (readPolicy s) refl (readRequest t) refl e
+    where
+      go : (x : Read Policy) → readPolicy s ≡ x → (y : Read Request) → readRequest t ≡ y → filesRead x y ≡ FilesRead.Refused n at
+          → OfPolicy s before (λ p. OfRequest t before (follows p)) (refusal n at) before
+      go (refused m b) d y k h = unread (d ∙ same-refusal h)
+      go (accepted p) d (refused m b) k h = holding (policy-exact s (lent-bytes bytes) p .0 d) (unread (k ∙ same-refusal h))
+      go (accepted p) d (accepted q) k h = let z : _≡_ {A = ℕ} 0 1 = cc in absurd (omega arith)
+
+  pub files-taken : ((i : ℕ) → Fits w8 (getD t i 0)) → filesRead (readPolicy s) (readRequest t) ≡ FilesRead.Accepted → PolicyFile s × Sent t
+  files-taken more e = go (readPolicy s) refl (readRequest t) refl e
+    where
+      go : (x : Read Policy) → readPolicy s ≡ x → (y : Read Request) → readRequest t ≡ y → filesRead x y ≡ FilesRead.Accepted → PolicyFile s × Sent t
+      go (refused m b) d y k h = let z : _≡_ {A = ℕ} 0 1 = cc in absurd (omega arith)
+      go (accepted p) d (refused m b) k h = let z : _≡_ {A = ℕ} 0 1 = cc in absurd (omega arith)
+      go (accepted p) d (accepted q) k h = (record { term = p; file = policy-exact s (lent-bytes bytes) p .0 d }, request-sent more k)

@@ -1,3 +1,4 @@
+pub mod Files
 pub mod Answer
 pub mod Ways
 pub mod Decide

@@ -1,6 +1,9 @@
 // Sinkheron: whether a batch may be released, and whether leaving a fact out of a request can open a release.
 // Every operation answers for every input; a refusal alters no lent memory.
 ghost use mathlib.Core.Path.{_≡_};
+ghost use Rattle.files.specs.ReadPolicy.{readPolicy};
+ghost use Rattle.files.specs.ReadRequest.{readRequest};
+ghost use Rattle.sinkheron.specs.Files.{filesRead};
 ghost use Rattle.sinkheron.specs.Decide as D;
 ghost use Rattle.sinkheron.specs.ListPairs as L;
 ghost use Rattle.sinkheron.specs.NormalForm as N;
@@ -49,14 +52,29 @@ pub enum Searched {
     },
 }
 
+// What the two files of a call are read as, the policy's refusals before the request's.
+enum FilesRead {
+    Accepted,
+    Refused { number: u8, place: usize },
+}
+
+fn read_files(policy: &[u8], request: &[u8]) -> FilesRead
+    ensures { λ r. ⌜ r ≡ filesRead (readPolicy (now (policy .entry))) (readRequest (now (request .entry))) ⌝ }
+{
+    match files::policy::read_policy(policy) {
+        PolicyRead::Refused { number, place } => FilesRead::Refused { number, place },
+        PolicyRead::Accepted => match files::request::read_request(request) {
+            RequestRead::Refused { number, place } => FilesRead::Refused { number, place },
+            RequestRead::Accepted => FilesRead::Accepted,
+        },
+    }
+}
+
 // What the policy comes to for the request. Only allow alone, the set's code 1, releases.
 pub fn decide(policy: &[u8], request: &[u8]) -> Decision
     ensures { λ r. ⌜ D.Decides (now (policy .entry)) (now (request .entry)) (D.answerOf r) tt ⌝ }
 {
-    if let PolicyRead::Refused { number, place } = files::policy::read_policy(policy) {
-        return Decision::Refused { number, place };
-    }
-    if let RequestRead::Refused { number, place } = files::request::read_request(request) {
+    if let FilesRead::Refused { number, place } = read_files(policy, request) {
         return Decision::Refused { number, place };
     }
     let body = files::policy::body(policy);
@@ -96,10 +114,7 @@ pub fn list_pairs(policy: &[u8], pairs: &mut [u32]) -> Listing
 pub fn normal_form(policy: &[u8], request: &[u8], space: &mut [u8]) -> Normalised
     ensures { λ r. ⌜ N.Normalises (now (policy .entry)) (now (request .entry)) (now (space .entry)) (N.answerOf r) (now (space .exit)) ⌝ }
 {
-    if let PolicyRead::Refused { number, place } = files::policy::read_policy(policy) {
-        return Normalised::Refused { number, place };
-    }
-    if let RequestRead::Refused { number, place } = files::request::read_request(request) {
+    if let FilesRead::Refused { number, place } = read_files(policy, request) {
         return Normalised::Refused { number, place };
     }
     let body = files::policy::body(policy);
