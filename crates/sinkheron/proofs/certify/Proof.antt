@@ -24,17 +24,8 @@ its-policy c = policy-taken (c .before .before .before .shared-slice-known .give
 its-body : (c : lts.After-body cs reads.Pre reads.Post) → Lent (c .before .before .before .before .before .args .policy .now) (c .body .result .now)
 its-body c = body-lent (its-policy (c .before)) (c .body .ensures)
 
-read-policy-requires : tie.Need-read-policy-requires
-read-policy-requires c κs = search needs
-
-enum-known-number : tie.Need-enum-known-number
-enum-known-number c = search needs
-
 returns : tie.Need-returns
 returns c = unread (policy-refused _ (sym (c .before .before .before .read-policy .ensures) ∙ c .before .number .given .1))
-
-enum-told : tie.Need-enum-told
-enum-told c = search needs
 
 body-requires : tie.Need-body-requires
 body-requires c κs = its-policy c
@@ -51,10 +42,10 @@ pub certify-spec : {M : Type 1} → statement M
 certify-spec =
     tie.close
     (tie.spec
-    read-policy-requires
-    enum-known-number
+    (λ c κs. search needs)
+    (λ c. search needs)
     returns
-    enum-told
+    (λ c. search needs)
     body-requires
     certificate-at-requires
     returns-2)

@@ -49,17 +49,8 @@ fits c =
     let p = its-body (c .before) in
     omega (arith, c .pairs-of .ensures .right (p .term) (p .bytes) .most)
 
-read-policy-requires : tie.Need-read-policy-requires
-read-policy-requires c κs = search needs
-
-enum-known-number : tie.Need-enum-known-number
-enum-known-number c = search needs
-
 returns : tie.Need-returns
 returns c = unread (policy-refused _ (sym (c .before .before .before .read-policy .ensures) ∙ c .before .number .given .1))
-
-enum-told : tie.Need-enum-told
-enum-told c = search needs
 
 body-requires : tie.Need-body-requires
 body-requires c κs = its-policy (c)
@@ -79,9 +70,6 @@ slice-aggregate-copy c = sym (its-pairs (c .before .before .before) .front)
 copy-requires : tie.Need-copy-requires
 copy-requires c κs = omega (arith, its-pairs (c .before .before .before .before) .front, c .before .before .if1 .left)
 
-same-length : tie.Need-same-length
-same-length c = search needs
-
 returns-3 : tie.Need-returns-3
 returns-3 c = list-written (its-body (c .before .before .before .before .before .before .before .before) .file) _ (its-pairs (c .before .before .before .before .before .before .before)) (c .before .before .before .before .before .if1 .left) (c .before .before .copy .ensures)
 
@@ -89,15 +77,15 @@ pub list-pairs-spec : {M : Type 1} → statement M
 list-pairs-spec =
     tie.close
     (tie.spec
-    read-policy-requires
-    enum-known-number
+    (λ c κs. search needs)
+    (λ c. search needs)
     returns
-    enum-told
+    (λ c. search needs)
     body-requires
     pairs-of-requires
     returns-2
     array-share-prefix-list
     slice-aggregate-copy
     copy-requires
-    same-length
+    (λ c. search needs)
     returns-3)

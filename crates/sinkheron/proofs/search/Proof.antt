@@ -53,17 +53,8 @@ its-verdict c =
     let p = its-body (c .before .before .before .before .before .before .before) in
     searched (p .file) _ (its-pairs (c .before .before .before .before .before .before)) (c .before .before .before .before .if1 .left) (c .before .before .before .if2 .left) (c .search .ensures .right (p .term) (p .bytes))
 
-read-policy-requires : tie.Need-read-policy-requires
-read-policy-requires c κs = search needs
-
-enum-known-number : tie.Need-enum-known-number
-enum-known-number c = search needs
-
 returns : tie.Need-returns
 returns c = unread (policy-refused _ (sym (c .before .before .before .read-policy .ensures) ∙ c .before .number .given .1))
-
-enum-told : tie.Need-enum-told
-enum-told c = search needs
 
 body-requires : tie.Need-body-requires
 body-requires c κs = its-policy (c)
@@ -94,20 +85,8 @@ search-requires : tie.Need-search-requires
 search-requires c κs =
     (its-body (c .before .before .before .before .before .before) .encoded, omega (arith, its-pairs (c .before .before .before .before .before) .front, c .before .before .before .if1 .left), c .before .before .if2 .left)
 
-enum-told-2 : tie.Need-enum-told-2
-enum-told-2 c = search needs
-
-enum-known-m : tie.Need-enum-known-m
-enum-known-m c = search needs
-
-same-length : tie.Need-same-length
-same-length c = search needs
-
 returns-4 : tie.Need-returns-4
 returns-4 c = rw (c .enum-told2 .given .1) at (its-verdict (c .before .before .before .before))
-
-same-length-2 : tie.Need-same-length-2
-same-length-2 c = search needs
 
 returns-5 : tie.Need-returns-5
 returns-5 c = rw (c .before .m .given .1) at (its-verdict (c .before .before .before .before .before))
@@ -116,10 +95,10 @@ pub search-spec : {M : Type 1} → statement M
 search-spec =
     tie.close
     (tie.spec
-    read-policy-requires
-    enum-known-number
+    (λ c κs. search needs)
+    (λ c. search needs)
     returns
-    enum-told
+    (λ c. search needs)
     body-requires
     pairs-of-requires
     returns-2
@@ -127,9 +106,9 @@ search-spec =
     array-share-prefix-list
     slice-aggregate-search
     search-requires
-    enum-told-2
-    enum-known-m
-    same-length
+    (λ c. search needs)
+    (λ c. search needs)
+    (λ c. search needs)
     returns-4
-    same-length-2
+    (λ c. search needs)
     returns-5)

@@ -6,23 +6,8 @@ use Rattle.sinkheron.proofs.Ranges.{certify-ranged}
 use Rattle.sinkheron.proofs.face.sinkheron_certify.Statement.{statement}
 use Rattle.sinkheron.proofs.face.sinkheron_certify.Tie as tie
 
-certify-requires : tie.Need-certify-requires
-certify-requires c κs = search needs
-
-enum-known-number : tie.Need-enum-known-number
-enum-known-number c = search needs
-
 refusal-requires : tie.Need-refusal-requires
 refusal-requires c κs = certify-ranged (lent-bytes (c .before .before .before .before .shared-slice-known .given)) _ _ (rw (c .before .number .given .1) at (c .before .before .before .certify .ensures)) .2
-
-enum-known-rule : tie.Need-enum-known-rule
-enum-known-rule c = search needs
-
-cast-result : tie.Need-cast-result
-cast-result c = search needs
-
-mul-result : tie.Need-mul-result
-mul-result c = search needs
 
 returns : tie.Need-returns
 returns c = record {
@@ -42,11 +27,11 @@ pub sinkheron-certify-spec : {M : Type 1} → statement M
 sinkheron-certify-spec =
     tie.close
     (tie.spec
-    certify-requires
-    enum-known-number
+    (λ c κs. search needs)
+    (λ c. search needs)
     refusal-requires
-    enum-known-rule
-    cast-result
-    mul-result
+    (λ c. search needs)
+    (λ c. search needs)
+    (λ c. search needs)
     returns
     returns-2)

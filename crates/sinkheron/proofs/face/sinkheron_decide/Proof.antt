@@ -6,23 +6,8 @@ use Rattle.sinkheron.proofs.Ranges.{decide-ranged}
 use Rattle.sinkheron.proofs.face.sinkheron_decide.Statement.{statement}
 use Rattle.sinkheron.proofs.face.sinkheron_decide.Tie as tie
 
-decide-requires : tie.Need-decide-requires
-decide-requires c κs = search needs
-
-enum-known-number : tie.Need-enum-known-number
-enum-known-number c = search needs
-
 refusal-requires : tie.Need-refusal-requires
 refusal-requires c κs = decide-ranged (lent-bytes (c .before .before .before .before .before .shared-slice-known .given)) _ _ (rw (c .before .number .given .1) at (c .before .before .before .decide .ensures)) .2
-
-enum-known-set : tie.Need-enum-known-set
-enum-known-set c = search needs
-
-cast-result : tie.Need-cast-result
-cast-result c = search needs
-
-mul-result : tie.Need-mul-result
-mul-result c = search needs
 
 returns : tie.Need-returns
 returns c = record {
@@ -42,11 +27,11 @@ pub sinkheron-decide-spec : {M : Type 1} → statement M
 sinkheron-decide-spec =
     tie.close
     (tie.spec
-    decide-requires
-    enum-known-number
+    (λ c κs. search needs)
+    (λ c. search needs)
     refusal-requires
-    enum-known-set
-    cast-result
-    mul-result
+    (λ c. search needs)
+    (λ c. search needs)
+    (λ c. search needs)
     returns
     returns-2)

@@ -6,23 +6,11 @@ use Rattle.sinkheron.proofs.Ranges.{normal-form-ranged}
 use Rattle.sinkheron.proofs.face.sinkheron_normal_form.Statement.{statement}
 use Rattle.sinkheron.proofs.face.sinkheron_normal_form.Tie as tie
 
-normal-form-requires : tie.Need-normal-form-requires
-normal-form-requires c κs = search needs
-
-enum-known-number : tie.Need-enum-known-number
-enum-known-number c = search needs
-
 refusal-requires : tie.Need-refusal-requires
 refusal-requires c κs = normal-form-ranged (lent-bytes (c .before .before .before .before .before .before .before .before .before .shared-slice-known .given)) _ _ (rw (c .before .number .given .1) at (c .before .before .before .before .before .normal-form .ensures)) .2
 
-enum-known-bytes : tie.Need-enum-known-bytes
-enum-known-bytes c = search needs
-
 mul-result : tie.Need-mul-result
 mul-result c = omega (arith, normal-form-ranged (lent-bytes (c .before .before .before .before .before .before .before .before .before .shared-slice-known .given)) _ _ (rw (c .before .bytes .given .1) at (c .before .before .before .before .before .normal-form .ensures)))
-
-same-length : tie.Need-same-length
-same-length c = search needs
 
 returns : tie.Need-returns
 returns c = record {
@@ -30,9 +18,6 @@ returns c = record {
   permitted = c .before .before .before .before .before .before .normal-form .ensures;
   is-word = rw (c .before .before .number .given .1) (omega (arith, c .refusal .ensures));
 }
-
-same-length-2 : tie.Need-same-length-2
-same-length-2 c = search needs
 
 returns-2 : tie.Need-returns-2
 returns-2 c = record {
@@ -45,12 +30,12 @@ pub sinkheron-normal-form-spec : {M : Type 1} → statement M
 sinkheron-normal-form-spec =
     tie.close
     (tie.spec
-    normal-form-requires
-    enum-known-number
+    (λ c κs. search needs)
+    (λ c. search needs)
     refusal-requires
-    enum-known-bytes
+    (λ c. search needs)
     mul-result
-    same-length
+    (λ c. search needs)
     returns
-    same-length-2
+    (λ c. search needs)
     returns-2)
