@@ -1,5 +1,5 @@
 -- Reading a policy file accepts exactly the files of policies within the limits, and a refusal has a number and place in bounds.
-use Prim.Native.Nat.{ℕ, _+_, _≤_, _<_}
+use Prim.Native.Nat.{ℕ, _≤_}
 use mathlib.Core.Path.{_≡_, refl, sym, ap, subst, _∙_}
 use mathlib.Core.Bool.{Bool, true, false, cond}
 use mathlib.Core.Logic.{_↔_}
@@ -8,7 +8,7 @@ use native.Mathlib.Omega.{arith}
 use lib.Dec.{ltb}
 use lib.ListN.{length, drop}
 use lib.Seq.{drop-length}
-use borrow.Author.Tests.{ltb-true, ltb-false}
+use borrow.Author.Tests.{ltb-false}
 use Rattle.ptacl.specs.Term.{policy, Policy}
 use Rattle.files.specs.Encoding.{enc, framed, policyFile, IsPolicy, Bytes}
 use Rattle.files.specs.Refusal.{Read, accepted, refused, unframed}

@@ -7,7 +7,7 @@ use native.Mathlib.Omega.{arith}
 use native.Mathlib.Numerals.{sub-one}
 use lib.ListN.{length, drop, length-append}
 use Rattle.ptacl.specs.Request.{Pair}
-use Rattle.ptacl.specs.Term.{Sort, target, policy, Term, nodes, atoms}
+use Rattle.ptacl.specs.Term.{Sort, Term, nodes, atoms}
 use Rattle.ptacl.specs.Term.{Node, anAtom, aDeny, anAllow, aTargeted, aNot, aDefault, anAnd, Shape, numbers, leaf, one, two, shape}
 use Rattle.ptacl.proofs.Shapes.{Case, by-shape}
 use Rattle.files.specs.Encoding.{depth, InRange}

@@ -1,5 +1,5 @@
 -- Document 01, "Files": a term in prefix order. How it is written, and how it is read from left to right up to the first refusal, for
--- every form of writing. E is what may follow a term, for a form that writes this too.
+-- every form of writing. E tells what follows a term, which some forms write too; bytes do not.
 use Prim.Native.Nat.{ℕ, zero, suc, _+_}
 use mathlib.Core.List.{List, _++_}
 use Rattle.ptacl.specs.Request.{Pair}
