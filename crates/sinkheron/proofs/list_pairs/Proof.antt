@@ -53,7 +53,7 @@ returns : tie.Need-returns
 returns c = unread (policy-refused _ (sym (c .before .before .before .read-policy .ensures) ∙ c .before .number .given .1))
 
 body-requires : tie.Need-body-requires
-body-requires c κs = its-policy (c)
+body-requires c κs = its-policy c
 
 pairs-of-requires : tie.Need-pairs-of-requires
 pairs-of-requires c κs = its-body c .encoded
