@@ -1,11 +1,11 @@
 -- What the lists of pairs are: the front of an array, each pair as a number.
-use Prim.Native.Nat.{ℕ, _≤_}
+use Prim.Native.Nat.{ℕ, _+_, _≤_}
 use mathlib.Core.Path.{_≡_}
 use mathlib.Core.Bool.{Bool, true, false, cond}
 use mathlib.Core.List.{List, [], _∷_, map}
 use lib.Dec.{eqb, ltb}
-use lib.ListN.{take}
-use Rattle.ptacl.specs.Request.{Pair, Request, holds, ascending}
+use lib.ListN.{take, drop}
+use Rattle.ptacl.specs.Request.{Pair, Request, holds, has, ascending}
 use Rattle.ptacl.specs.Pairs.{named, allBelow, IsPairs, unpacked, IsNormal}
 use Rattle.ptacl.specs.Term.{Policy, atoms}
 use Rattle.files.specs.Encoding.{enc}
@@ -31,6 +31,10 @@ pub record FreshOf (ats : List Pair) (n : ℕ) (x : Pair) : Type 0 where
   pub name : x .0 ≡ n
   pub free : named ats x ≡ false
   pub smallest : allBelow (λ v. named ats (n, v)) (x .1) ≡ true
+
+-- if so, the name is also that of a pair behind number i
+pub record GoesOn (list : List ℕ) (i name : ℕ) (so : Bool) : Type 0 where
+  pub later : so ≡ true → has (map unpacked (drop (i + 1) list)) name ≡ true
 
 -- the policy's pairs
 pub record All (ats : List Pair) (l : Pairs) : Type 0 where

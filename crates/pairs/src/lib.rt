@@ -8,7 +8,7 @@ ghost use Rattle.ptacl.specs.Pairs.{unpacked, named, namedOrFresh, unnamed, nor
 ghost use Rattle.files.specs.Memory.{over};
 ghost use Rattle.files.specs.Places.{Encoded, numbersOf};
 ghost use Rattle.evaluate.specs.Ordered.{Ordered, OrderedFile};
-ghost use Rattle.pairs.specs.Lists.{numbers, carry, NamedOf, FreshOf, AllOf, NormalOf, PairsOf, NormalFormOf};
+ghost use Rattle.pairs.specs.Lists.{numbers, carry, NamedOf, FreshOf, GoesOn, AllOf, NormalOf, PairsOf, NormalFormOf};
 use evaluate::order;
 
 // An ascending list of pairs, each name * 65536 + value.
@@ -99,7 +99,18 @@ fn name_of(pair: u32) -> u32
     pair / 65536
 }
 
-// The named pairs, and the fresh pair of each of their names.
+// Whether the pair behind number i has that name.
+fn goes_on(list: &[u32], i: usize, name: u32) -> bool
+    requires { ⌜ i < length (now list) ⌝ }
+    ensures { λ r. ⌜ GoesOn (now (list .entry)) i name r ⌝ }
+{
+    if i + 1 < list.len() {
+        return list[i + 1] / 65536 == name;
+    }
+    false
+}
+
+// The named pairs, and the fresh pair of each of their names, which is put in at the last pair of the name.
 fn all_of(named: Pairs) -> Pairs
     requires { ⌜ (named .count ≤ 127) × Ordered (numbers named) ⌝ }
     ensures { λ r. ⌜ AllOf named r ⌝ }
@@ -110,8 +121,10 @@ fn all_of(named: Pairs) -> Pairs
     let mut i = 0;
     while i < count {
         let name = name_of(from[i]);
-        let fresh = fresh_of(&from[..count], name);
-        all = insert(all, fresh);
+        if !goes_on(&from[..count], i, name) {
+            let fresh = fresh_of(&from[..count], name);
+            all = insert(all, fresh);
+        }
         i += 1;
     }
     all

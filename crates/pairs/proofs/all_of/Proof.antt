@@ -1,11 +1,13 @@
 -- `all_of` puts the fresh pair of each name to the named pairs.
 use Prim.Native.Nat.{_-_, _≤_}
 use mathlib.Core.Path.{_≡_, sym}
+use mathlib.Core.Logic.{⊎-elim}
 use native.Mathlib.Omega.{arith}
 use borrow.Author.Needs.{needs}
+use borrow.Author.Tests.{not-false}
 use lib.ListN.{length, take}
 use lib.Seq.{length-take-le}
-use Rattle.pairs.proofs.Complete.{Completed, completed-start, completed-next, completed-end}
+use Rattle.pairs.proofs.Complete.{Completed, completed-start, completed-next, completed-skip, completed-end}
 use Rattle.pairs.proofs.all_of.Statement.{statement}
 use Rattle.pairs.proofs.all_of.Tie as tie
 
@@ -38,16 +40,25 @@ name-of-requires c κs = search needs
 array-share-prefix-from : tie.Need-array-share-prefix-from Inv-loop μ-loop
 array-share-prefix-from c = fits (c .before .before .before .before)
 
+slice-aggregate-goes-on : tie.Need-slice-aggregate-goes-on Inv-loop μ-loop
+slice-aggregate-goes-on c = sym (front (c .before .before .before .before .before))
+
+goes-on-requires : tie.Need-goes-on-requires Inv-loop μ-loop
+goes-on-requires c κs = omega (arith, front (c .before .before .before .before .before))
+
+array-share-prefix-from-2 : tie.Need-array-share-prefix-from-2 Inv-loop μ-loop
+array-share-prefix-from-2 c = fits (c .before .before .before .before .before .before .before)
+
 slice-aggregate-fresh-of : tie.Need-slice-aggregate-fresh-of Inv-loop μ-loop
-slice-aggregate-fresh-of c = sym (front (c .before .before .before .before .before))
+slice-aggregate-fresh-of c = sym (front (c .before .before .before .before .before .before .before .before))
 
 fresh-of-requires : tie.Need-fresh-of-requires Inv-loop μ-loop
 fresh-of-requires c κs =
-    let s = c .before .before .before .before .before in
-    (c .before .name-of .ensures .1, omega (arith, front s, s .pre), s .pre .1)
+    let s = c .before .before .before .before .before .before .before .before in
+    (c .before .before .before .before .name-of .ensures .1, omega (arith, front s, s .pre), s .pre .1)
 
 insert-requires : tie.Need-insert-requires Inv-loop μ-loop
-insert-requires c κs = omega (arith, c .before .before .before .before .before .before .pre, c .before .before .before .before .loop .inv)
+insert-requires c κs = omega (arith, c .before .before .before .before .before .before .before .before .before .pre, c .before .before .before .before .before .before .before .loop .inv)
 
 add-i : tie.Need-add-i Inv-loop μ-loop
 add-i c = search needs
@@ -59,11 +70,13 @@ loop-again : tie.Need-loop-again Inv-loop μ-loop
 loop-again c =
     let l = c .before .before .before .before .before .loop in
     let name = c .before .before .before .name-of in
-    let fresh = c .before .fresh-of in
-    let put = c .insert in
     let s = c .before .before .before .before .before .before .before in
-    completed-next _ _ _ (l .i) (l .inv) (fits s) (search needs) (name .result) (name .ensures .0) (fresh .result) (fresh .ensures)
-    (put .result) (put .ensures .0) (put .ensures .1)
+    ⊎-elim
+    (λ w. rw (w .4) (completed-next _ _ _ (l .i) (l .inv) (fits s) (search needs) (name .result) (name .ensures .0)
+    (w .2 .result) (w .2 .ensures) (w .3 .result) (w .3 .ensures .0) (w .3 .ensures .1)))
+    (λ w. rw (w .1) (completed-skip _ _ _ (l .i) (l .inv) (fits s) (search needs) (name .result) (name .ensures .0)
+    (c .before .goes-on .ensures .later (not-false _ (w .0 .left)))))
+    (c .if1 .came)
 
 returns : tie.Need-returns Inv-loop μ-loop
 returns c =
@@ -81,6 +94,9 @@ all-of-spec =
     array-read-name-of
     name-of-requires
     array-share-prefix-from
+    slice-aggregate-goes-on
+    goes-on-requires
+    array-share-prefix-from-2
     slice-aggregate-fresh-of
     fresh-of-requires
     insert-requires
