@@ -92,7 +92,9 @@ module _ (x : ℕ) (l₀ pairs : List ℕ) (count held i : ℕ) (few : count < 2
   pub carried-there : i < count → getD pairs i 0 ≡ held → take count pairs ≡ carry x l₀
   carried-there lt e = sym (there-at (take count pairs) i held (omega (arith, long)) (getD-take count pairs i 0 lt ∙ e)) ∙ c .work
 
-  pub carried-end : count ≤ i → take (count + 1) (set pairs count held) ≡ carry x l₀
+  pub carried-end : count ≤ i → (length (set pairs count held) ≡ 254) × (take (count + 1) (set pairs count held) ≡ carry x l₀)
   carried-end k =
-      let e : i ≡ length (take count pairs) = omega (arith, c .most, long) in
-      rw (add-one, take-suc-set pairs count held (omega (arith, c .size))) (sym (rw (e, take-length, drop-length)) ∙ c .work)
+      let e : i ≡ length (take count pairs) = omega (arith, c .most, long) in (
+        length-set pairs count held ∙ c .size,
+        rw (add-one, take-suc-set pairs count held (omega (arith, c .size))) (sym (rw (e, take-length, drop-length)) ∙ c .work),
+      )

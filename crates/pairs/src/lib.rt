@@ -3,7 +3,7 @@ ghost use mathlib.Core.Path.{_≡_};
 ghost use mathlib.Core.Bool.{true};
 ghost use mathlib.Core.List.{map};
 ghost use Prim.Native.Nat.{_+_, _/_, _≤_, _<_};
-ghost use lib.ListN.{length};
+ghost use lib.ListN.{length, take};
 ghost use Rattle.ptacl.specs.Pairs.{unpacked, named, namedOrFresh, unnamed, normal};
 ghost use Rattle.files.specs.Memory.{over};
 ghost use Rattle.files.specs.Places.{Encoded, numbersOf};
@@ -17,19 +17,17 @@ pub struct Pairs {
     pub count: usize,
 }
 
-// Puts a pair into its place, once.
-fn insert(list: Pairs, pair: u32) -> Pairs
-    requires { ⌜ list .count < 254 ⌝ }
-    ensures { λ r. ⌜ (r .count ≤ list .count + 1) × (numbers r ≡ carry pair (numbers list)) ⌝ }
+// Puts a pair into its place among the first `count`, once: how many there are then.
+fn insert(pairs: &mut [u32; 254], count: usize, pair: u32) -> usize
+    requires { ⌜ (count < 254) × (length (now pairs) ≡ 254) ⌝ }
+    ensures { λ r. ⌜ (r ≤ count + 1) × (length (now (pairs .exit)) ≡ 254) × (take r (now (pairs .exit)) ≡ carry pair (take count (now (pairs .entry)))) ⌝ }
 {
-    let mut pairs = list.pairs;
-    let count = list.count;
     let mut held = pair;
     let mut i = 0;
     while i < count {
         let other = pairs[i];
         if other == held {
-            return Pairs { pairs, count };
+            return count;
         }
         if held < other {
             pairs[i] = held;
@@ -38,10 +36,7 @@ fn insert(list: Pairs, pair: u32) -> Pairs
         i += 1;
     }
     pairs[count] = held;
-    Pairs {
-        pairs,
-        count: count + 1,
-    }
+    count + 1
 }
 
 // The named pairs of the policy whose bytes these are.
@@ -49,20 +44,18 @@ fn named_of(term: &[u8]) -> Pairs
     requires { ⌜ Encoded (now term) ⌝ }
     ensures { λ r. ⌜ NamedOf (now (term .entry)) r ⌝ }
 {
-    let mut named = Pairs {
-        pairs: [0u32; 254],
-        count: 0,
-    };
+    let mut pairs = [0u32; 254];
+    let mut count = 0;
     let mut at = 0;
     while at < term.len() {
         if term[at] == 0x10 {
-            named = insert(named, files::bytes::pair(term, at + 1));
+            count = insert(&mut pairs, count, files::bytes::pair(term, at + 1));
             at += 5;
         } else {
             at += 1;
         }
     }
-    named
+    Pairs { pairs, count }
 }
 
 // Whether the pair is one of these. All are compared, several at a time: for so few this takes no longer than halving.
@@ -117,17 +110,18 @@ fn all_of(named: Pairs) -> Pairs
 {
     let from = named.pairs;
     let count = named.count;
-    let mut all = named;
+    let mut pairs = named.pairs;
+    let mut all = count;
     let mut i = 0;
     while i < count {
         let name = name_of(from[i]);
         if !goes_on(&from[..count], i, name) {
             let fresh = fresh_of(&from[..count], name);
-            all = insert(all, fresh);
+            all = insert(&mut pairs, all, fresh);
         }
         i += 1;
     }
-    all
+    Pairs { pairs, count: all }
 }
 
 // Whether the request holds a value of the name that is not named.

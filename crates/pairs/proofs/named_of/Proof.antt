@@ -1,6 +1,6 @@
 -- `named_of` gathers the named pairs on a walk over the bytes.
 use Prim.Native.Nat.{_-_, _+_, _<_, _≤_}
-use mathlib.Core.Path.{refl}
+use mathlib.Core.Path.{_≡_, refl}
 use native.Mathlib.Omega.{arith}
 use borrow.Author.Needs.{needs}
 use lib.ListN.{length}
@@ -9,18 +9,18 @@ use Rattle.pairs.proofs.named_of.Statement.{statement}
 use Rattle.pairs.proofs.named_of.Tie as tie
 
 abbrev Inv-loop : tie.InvT-loop
-Inv-loop term named₀ at₀ named at = Gathered term named at
+Inv-loop term pairs₀ count₀ at₀ pairs count at = (length pairs ≡ 254) × Gathered term (record { pairs = pairs; count = count }) at
 
 abbrev μ-loop : tie.MeasureT-loop
-μ-loop term named₀ at₀ named at = length term - at
+μ-loop term pairs₀ count₀ at₀ pairs count at = length term - at
 
 atom : (c : tie.Then1 Inv-loop μ-loop)
     → (c .before .before .before .loop .at + 5 ≤ length (c .before .before .before .before .before .args .term .now))
-    × (c .before .before .before .loop .named .count < 127)
-atom c = gathered-fits _ _ _ (c .before .before .before .loop .inv) (search needs) (c .if1 .taken)
+    × (c .before .before .before .loop .count < 127)
+atom c = gathered-fits _ _ _ (c .before .before .before .loop .inv .1) (search needs) (c .if1 .taken)
 
 loop-holds : tie.Need-loop-holds Inv-loop μ-loop
-loop-holds c = gathered-start _ _ refl (c .before .pre)
+loop-holds c = (search needs, gathered-start _ _ refl (c .before .pre))
 
 shared-slice-read-if1 : tie.Need-shared-slice-read-if1 Inv-loop μ-loop
 shared-slice-read-if1 c = search needs
@@ -29,25 +29,27 @@ add-pair : tie.Need-add-pair Inv-loop μ-loop
 add-pair c = search needs
 
 pair-requires : tie.Need-pair-requires Inv-loop μ-loop
-pair-requires c κs = omega (arith, atom c)
+pair-requires c κs = omega (arith, atom (c .before))
 
 insert-requires : tie.Need-insert-requires Inv-loop μ-loop
-insert-requires c κs = omega (arith, atom (c .before))
+insert-requires c κs = (omega (arith, atom (c .before .before)), c .before .before .before .before .before .loop .inv .0)
 
 add-at : tie.Need-add-at Inv-loop μ-loop
-add-at c = omega (arith, atom (c .before .before))
+add-at c = omega (arith, atom (c .before .before .before))
 
 loop-less : tie.Need-loop-less Inv-loop μ-loop
 loop-less c = search needs
 
 loop-again : tie.Need-loop-again Inv-loop μ-loop
 loop-again c =
-    let l = c .before .before .before .before .before .loop in
-    let byte = c .before .before .before .before .before .before .shared-slice-known .given in
+    let l = c .before .before .before .before .before .before .loop in
+    let byte = c .before .before .before .before .before .before .before .shared-slice-known .given in
     let pair = c .before .pair in
-    let put = c .insert in
-    gathered-atom _ _ (l .at) (l .inv) (search needs) (c .before .before .if1 .taken) (omega (arith, byte (l .at + 3), byte (l .at + 3 + 1)))
-    (pair .result) (pair .ensures) (put .result) (put .ensures .0) (put .ensures .1)
+    let put = c .insert in (
+      put .ensures .1,
+      gathered-atom _ _ (l .at) (l .inv .1) (search needs) (c .before .before .before .if1 .taken)
+          (omega (arith, byte (l .at + 3), byte (l .at + 3 + 1))) (pair .result) (pair .ensures) _ (put .ensures .0) (put .ensures .2),
+    )
 
 add-at-2 : tie.Need-add-at-2 Inv-loop μ-loop
 add-at-2 c = search needs
@@ -56,10 +58,12 @@ loop-less-2 : tie.Need-loop-less-2 Inv-loop μ-loop
 loop-less-2 c = search needs
 
 loop-again-2 : tie.Need-loop-again-2 Inv-loop μ-loop
-loop-again-2 c = gathered-node _ _ _ (c .before .before .before .loop .inv) (search needs) (c .if1 .left)
+loop-again-2 c =
+    let v = c .before .before .before .loop .inv in
+    (v .0, gathered-node _ _ _ (v .1) (search needs) (c .if1 .left))
 
 returns : tie.Need-returns Inv-loop μ-loop
-returns c = gathered-end _ _ (c .before .loop .at) (c .before .loop .inv) (search needs)
+returns c = gathered-end _ _ (c .before .loop .at) (c .before .loop .inv .1) (search needs)
 
 pub named-of-spec : {M : Type 1} → statement M
 named-of-spec =
