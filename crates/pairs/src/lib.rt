@@ -58,7 +58,7 @@ fn named_of(term: &[u8]) -> Pairs
     Pairs { pairs, count }
 }
 
-// Whether the pair is one of these. All are compared, several at a time: for so few this takes no longer than halving.
+// Whether the pair is one of these. The walk goes on behind it, so that several are compared at a time.
 fn is_named(list: &[u32], pair: u32) -> bool
     ensures { λ r. ⌜ r ≡ named (map unpacked (now (list .entry))) (unpacked pair) ⌝ }
 {
