@@ -69,6 +69,18 @@ static void policy(struct bytes *b, unsigned depth)
         policy(b, depth - 1);
 }
 
+/* A balanced tree of ands: twice as many nodes as leaves less one, about the limit of 255. */
+static void broad(struct bytes *b, unsigned leaves)
+{
+    if (leaves == 1) {
+        put(b, 0x20 + below(2));
+        return;
+    }
+    put(b, 0x25);
+    broad(b, leaves / 2);
+    broad(b, leaves - leaves / 2);
+}
+
 static void close_frame(struct bytes *b)
 {
     b->at[0] = 1;
@@ -81,7 +93,36 @@ static void make_policy(struct bytes *b)
     b->length = 3;
     for (unsigned k = below(8) == 0 ? below(40) : 0; k > 0; k--)
         put(b, 0x23 + below(2));
-    policy(b, 1 + below(below(10) == 0 ? 9 : 5));
+    if (below(40) == 0)
+        broad(b, 120 + below(12));
+    else
+        policy(b, 1 + below(below(10) == 0 ? 9 : 5));
+    close_frame(b);
+}
+
+/* Targets of so many names with one value each, and now and then one value more: up to 16 pairs, or 17. */
+static void make_wide_policy(struct bytes *b)
+{
+    unsigned names = 5 + below(4);
+    b->length = 3;
+    for (unsigned k = 0; k < names; k++) {
+        put(b, 0x22);
+        if (below(3) == 0)
+            put(b, 0x11 + below(2));
+        put(b, 0x10);
+        put(b, 0);
+        put(b, k);
+        put(b, 0);
+        put(b, 1);
+        if (below(2) == 0)
+            put(b, 0x23 + below(2));
+    }
+    if (below(4) == 0) {
+        static const uint8_t more[] = {0x22, 0x10, 0, 0, 0, 2};
+        for (size_t k = 0; k < sizeof more; k++)
+            put(b, more[k]);
+    }
+    put(b, 0x20 + below(2));
     close_frame(b);
 }
 
@@ -129,6 +170,33 @@ static uint64_t packed(struct answer a, uint64_t values) { return a.number != 0 
 
 static const char *operation;
 
+/* What was met: a test that meets little says little. */
+static unsigned long numbers[32], sets[8], rules[8], verdicts[2], searched[17];
+
+static void met(const struct answer *decided, const struct answer *certified, const struct answer *search)
+{
+    numbers[decided->number % 32]++;
+    if (search->number == 12 || search->number == 13)
+        numbers[search->number]++;
+    if (decided->number == 0)
+        sets[decided->set]++;
+    if (certified->number == 0)
+        rules[certified->rule]++;
+    if (search->number == 0) {
+        verdicts[search->verdict]++;
+        searched[search->pairs]++;
+    }
+}
+
+static void print_counts(const char *what, const unsigned long *counts, size_t length)
+{
+    printf("%s:", what);
+    for (size_t k = 0; k < length; k++)
+        if (counts[k] != 0)
+            printf(" %zu in %lu", k, counts[k]);
+    putchar('\n');
+}
+
 static int differs(uint64_t got, uint64_t wanted, const void *left, const void *expected, size_t length)
 {
     return got != wanted || (length > 0 && memcmp(left, expected, length) != 0);
@@ -140,20 +208,20 @@ static int trial(const struct bytes *p, const struct bytes *q, const struct guar
     static uint8_t fill[ROOM], model_space[ROOM];
     static uint32_t fill32[512], model_pairs[512];
     const uint8_t *policy = guarded_copy(&memory[0], p->at, p->length, at_end), *request = guarded_copy(&memory[1], q->at, q->length, at_end);
-    struct answer a;
+    struct answer a, decided, certified;
     for (size_t k = 0; k < space_len; k++)
         fill[k] = (uint8_t)next();
     for (size_t k = 0; k < space_len / 4; k++)
         fill32[k] = next();
 
     operation = "decide";
-    a = model_decide(policy, p->length, request, q->length);
-    if (differs(sinkheron_decide(policy, p->length, request, q->length), packed(a, (uint64_t)a.set << 8), NULL, NULL, 0))
+    decided = model_decide(policy, p->length, request, q->length);
+    if (differs(sinkheron_decide(policy, p->length, request, q->length), packed(decided, (uint64_t)decided.set << 8), NULL, NULL, 0))
         return 1;
 
     operation = "certify";
-    a = model_certify(policy, p->length);
-    if (differs(sinkheron_certify(policy, p->length), packed(a, (uint64_t)a.rule << 12), NULL, NULL, 0))
+    certified = model_certify(policy, p->length);
+    if (differs(sinkheron_certify(policy, p->length), packed(certified, (uint64_t)certified.rule << 12), NULL, NULL, 0))
         return 1;
 
     operation = "search";
@@ -164,6 +232,7 @@ static int trial(const struct bytes *p, const struct bytes *q, const struct guar
                 packed(a, (uint64_t)a.verdict << 8 | (uint64_t)a.pairs << 16 | (uint64_t)a.bytes << 24 | (uint64_t)a.subset << 32 | (uint64_t)a.hides << 48),
                 space, model_space, space_len))
         return 1;
+    met(&decided, &certified, &a);
 
     operation = "normal_form";
     space = guarded_copy(&memory[2], fill, space_len, at_end);
@@ -190,13 +259,16 @@ static void show(const char *what, const struct bytes *b)
 
 int main(int count, char **argument)
 {
-    static const size_t lengths[] = {0, 3, 7, 8, 10, 11, 16, 129, 130, 131, 200, 1020};
+    static const size_t lengths[] = {0, 3, 7, 8, 10, 11, 16, 129, 130, 130, 131, 131, 140, 200, 200, 260, 400, 600, 800, 1020};
     static struct bytes p, q;
     struct guarded memory[3] = {guarded_new(ROOM), guarded_new(ROOM), guarded_new(ROOM)};
     unsigned long trials = count > 1 ? strtoul(argument[1], NULL, 10) : 10000;
     state = 88172645463325252u ^ (count > 2 ? strtoull(argument[2], NULL, 10) << 20 : 0);
     for (unsigned long k = 0; k < trials; k++) {
-        make_policy(&p);
+        if (below(2000) == 0)
+            make_wide_policy(&p);
+        else
+            make_policy(&p);
         make_request(&q);
         if (below(3) == 0)
             damage(&p);
@@ -211,6 +283,11 @@ int main(int count, char **argument)
         }
     }
     printf("%lu inputs, five operations each, no difference\n", trials);
+    print_counts("numbers met", numbers, 32);
+    print_counts("sets met", sets, 8);
+    print_counts("certificates met", rules, 8);
+    print_counts("verdicts met", verdicts, 2);
+    print_counts("pairs searched", searched, 17);
     puts("1 passed, 0 failed");
     return 0;
 }

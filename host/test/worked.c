@@ -186,6 +186,35 @@ static void edges(void)
     expect("65,538 bytes", sinkheron_certify(p.bytes, 65538), refused(8, 4));
 }
 
+/* 128 leaves under 127 ands are 255 nodes; a not over them is a 256th. */
+static void tree(struct file *f, unsigned leaves)
+{
+    if (leaves > 1) {
+        f->bytes[f->length++] = 0x25;
+        tree(f, leaves / 2);
+        tree(f, leaves / 2);
+    } else {
+        f->bytes[f->length++] = 0x21;
+    }
+}
+
+static void most_nodes(void)
+{
+    static struct file p;
+    p.length = 3;
+    tree(&p, 128);
+    p.bytes[0] = 1;
+    p.bytes[1] = 0;
+    p.bytes[2] = 255;
+    expect("255 nodes are read", sinkheron_certify(p.bytes, 258), (uint64_t)2 << 12);
+    p.length = 4;
+    tree(&p, 128);
+    p.bytes[1] = 1;
+    p.bytes[2] = 0;
+    p.bytes[3] = 0x23;
+    expect("a 256th node", sinkheron_certify(p.bytes, 259), refused(7, 258));
+}
+
 static void nulls(void)
 {
     static struct file p;
@@ -204,6 +233,7 @@ int main(void)
     files_of_A();
     pairs_and_normal_forms();
     edges();
+    most_nodes();
     nulls();
     printf("%d passed, %d failed\n", passed, failed);
     return failed != 0;
