@@ -121,11 +121,11 @@ module _ {b : List ℕ} {i : ℕ} {pairs rows : List ℕ} where
   }
 
 -- the requests of the lanes are the subsets from 512 * w on
-pub allowed-judged : {b pairs rows : List ℕ} {w : ℕ} {p : PolicyRow} {r : Row} → PairRows w rows → length pairs ≤ 16
+pub allowed-judged : {b pairs rows : List ℕ} {w : ℕ} {p : PolicyRow} {r : Row} → PairRows (length pairs) w rows
     → PolicyRows b 0 pairs rows p → RowIs r (λ j. strict (setAt p j)) → AllowedRow strict b pairs w r
 unfolding allowed
-allowed-judged {b} {pairs} {rows} {w} {p} k l h s = record {
+allowed-judged {b} {pairs} {rows} {w} {p} k h s = record {
   subsets = λ t a j g.
       s .at j g
-      ∙ (ap strict (same-code (setAt p j) _ (h .held j g .value t (body-at t a))) ∙ ap (λ q. strict (eval t q)) (request-subset pairs rows w j k l g));
+      ∙ (ap strict (same-code (setAt p j) _ (h .held j g .value t (body-at t a))) ∙ ap (λ q. strict (eval t q)) (request-subset pairs rows w j k g));
 }

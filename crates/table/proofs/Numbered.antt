@@ -20,9 +20,10 @@ below-set P l i x r h e =
     below-more (λ k. P k (getD (set l i x) k 0)) i (λ k g. rw (getD-set-other l i k x 0 (λ (z : k ≡ i). omega arith)) (h k g))
     (rw (getD-set-same l i x 0 r) e)
 
-pub rows-law : {w : ℕ} {rows : List ℕ} → ((t : ℕ) → t < 128 → PairWord (w * 8 + t % 8) (t / 8) (getD rows t 0)) → PairRows w rows
+pub rows-law : {count w : ℕ} {rows : List ℕ} → ((t : ℕ) → t < 8 * count → PairWord (w * 8 + t % 8) (t / 8) (getD rows t 0))
+    → PairRows count w rows
 unfolding laneOf
-rows-law {w} e = record {
+rows-law {w = w} e = record {
   pattern = λ i j h g.
       let t = i * 8 + j / 64 in
       let n : 64 * (w * 8 + t % 8) + j % 64 ≡ 512 * w + j = omega arith in
@@ -38,9 +39,9 @@ request-from (x ∷ pairs) rows i j m e =
     ap₂ (λ b r. cond b (x ∷ r) r) (ap (λ k. laneOf rows k j) (omega arith) ∙ (e 0 (omega arith) ∙ bit-zero m))
     (request-from pairs rows (suc i) j (m / 2) (λ n g. ap (λ k. laneOf rows k j) (omega arith) ∙ (e (suc n) (omega arith) ∙ bit-suc m n)))
 
-pub request-subset : (pairs rows : List ℕ) (w j : ℕ) → PairRows w rows → length pairs ≤ 16 → j < 512
+pub request-subset : (pairs rows : List ℕ) (w j : ℕ) → PairRows (length pairs) w rows → j < 512
     → map unpacked (request pairs rows 0 j) ≡ subset (map unpacked pairs) (512 * w + j)
-request-subset pairs rows w j p l h =
+request-subset pairs rows w j p h =
     let m = 512 * w + j in
-    ap (map unpacked) (request-from pairs rows 0 j m (λ n g. ap (λ k. laneOf rows k j) (omega arith) ∙ p .pattern n j (omega arith) h))
+    ap (map unpacked) (request-from pairs rows 0 j m (λ n g. ap (λ k. laneOf rows k j) (omega arith) ∙ p .pattern n j g h))
     ∙ sym (subset-map unpacked pairs m)

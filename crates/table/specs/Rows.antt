@@ -76,8 +76,8 @@ pub record PolicyRows (b : List ℕ) (at : ℕ) (pairs rows : List ℕ) (p : Pol
 pub record PairWord (w i x : ℕ) : Type 0 where
   pub pattern : (j : ℕ) → j < 64 → bit x j ≡ bit (64 * w + j) i
 
-pub record PairRows (w : ℕ) (rows : List ℕ) : Type 0 where
-  pub pattern : (i j : ℕ) → i < 16 → j < 512 → laneOf rows i j ≡ bit (512 * w + j) i
+pub record PairRows (count w : ℕ) (rows : List ℕ) : Type 0 where
+  pub pattern : (i j : ℕ) → i < count → j < 512 → laneOf rows i j ≡ bit (512 * w + j) i
 
 -- which of the subsets from 512 * w on are allowed
 pub record AllowedRow (g : Reading) (b pairs : List ℕ) (w : ℕ) (r : Row) : Type 0 where

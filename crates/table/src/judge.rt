@@ -219,7 +219,7 @@ fn only_allow(set: PolicyRow) -> Row
 
 // Which of the 512 subsets whose pairs these rows give are allowed.
 pub fn judge(body: &[u8], pairs: &[u32], rows: &[u64; 128], w: usize) -> Row
-    requires { ⌜ Encoded (now body) × (length (now pairs) ≤ 16) × PairRows w (now rows) ⌝ }
+    requires { ⌜ Encoded (now body) × (length (now pairs) ≤ 16) × PairRows (length (now pairs)) w (now rows) ⌝ }
     ensures { λ r. ⌜ AllowedRow strict (now (body .entry)) (now (pairs .entry)) w r ⌝ }
 {
     only_allow(judge_policy(body, 0, 255, pairs, rows))

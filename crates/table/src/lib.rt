@@ -33,14 +33,14 @@ pub fn holding(w: usize, i: usize) -> u64
     if (w >> (i - 6)) % 2 == 1 { ONES } else { 0 }
 }
 
-// The pairs' rows for the subsets from 512 * w on.
-fn pair_rows(w: usize) -> [u64; 128]
-    requires { ⌜ w < 128 ⌝ }
-    ensures { λ r. ⌜ PairRows w r ⌝ }
+// The rows of so many pairs for the subsets from 512 * w on.
+fn pair_rows(count: usize, w: usize) -> [u64; 128]
+    requires { ⌜ (count ≤ 16) × (w < 128) ⌝ }
+    ensures { λ r. ⌜ PairRows count w r ⌝ }
 {
     let mut rows = [0u64; 128];
     let mut at = 0;
-    while at < 128 {
+    while at < 8 * count {
         rows[at] = holding(w * 8 + at % 8, at / 8);
         at += 1;
     }
@@ -73,7 +73,7 @@ pub fn fill_row(body: &[u8], pairs: &[u32], table: &mut [u64; 1024], w: usize)
     requires { ⌜ Encoded (now body) × (length (now pairs) ≤ 16) × (w < 128) × Filled strict (now body) (now pairs) (now table) w ⌝ }
     ensures { λ _. ⌜ Filled strict (now (body .entry)) (now (pairs .entry)) (now (table .exit)) (w + 1) ⌝ }
 {
-    let rows = pair_rows(w);
+    let rows = pair_rows(pairs.len(), w);
     let row = judge::judge(body, pairs, &rows, w);
     put_row(table, w * 8, row);
 }

@@ -10,13 +10,16 @@ use Rattle.table.proofs.pair_rows.Statement.{statement}
 use Rattle.table.proofs.pair_rows.Tie as tie
 
 abbrev Inv-loop : tie.InvT-loop
-Inv-loop w rows₀ at₀ rows at = (length rows ≡ 128) × ((k : ℕ) → k < at → PairWord (w * 8 + k % 8) (k / 8) (getD rows k 0))
+Inv-loop count w rows₀ at₀ rows at = (length rows ≡ 128) × ((k : ℕ) → k < at → PairWord (w * 8 + k % 8) (k / 8) (getD rows k 0))
 
 abbrev μ-loop : tie.MeasureT-loop
-μ-loop w rows₀ at₀ rows at = 128 - at
+μ-loop count w rows₀ at₀ rows at = 8 * count - at
 
 loop-holds : tie.Need-loop-holds Inv-loop μ-loop
 loop-holds c = (length-replicate {A = ℕ} 128 0, λ k h. absurd (omega arith))
+
+mul-loop : tie.Need-mul-loop Inv-loop μ-loop
+mul-loop c = search needs
 
 mul-holding : tie.Need-mul-holding Inv-loop μ-loop
 mul-holding c = search needs
@@ -58,6 +61,7 @@ pair-rows-spec =
     Inv-loop
     μ-loop
     loop-holds
+    mul-loop
     mul-holding
     add-holding
     holding-requires

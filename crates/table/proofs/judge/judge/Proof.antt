@@ -9,9 +9,7 @@ judge-policy-requires : tie.Need-judge-policy-requires
 judge-policy-requires c κs = (body-has (c .before .before .pre .0), c .before .before .pre .1)
 
 returns : tie.Need-returns
-returns c =
-    let p = c .before .before .before .before .pre in
-    allowed-judged (p .2) (p .1) (c .before .judge-policy .ensures) (c .only-allow .ensures)
+returns c = allowed-judged (c .before .before .before .before .pre .2) (c .before .judge-policy .ensures) (c .only-allow .ensures)
 
 pub judge-spec : {M : Type 1} → statement M
 judge-spec = tie.close (tie.spec judge-policy-requires (λ c κs. search needs) returns)
