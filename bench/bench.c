@@ -293,8 +293,8 @@ static void search_rows(void)
         for (unsigned n = 1; n <= 8; n *= 2)
             if (n <= sizes[k])
                 search_row(sizes[k], n, resistant_leaf, "resistant");
-    for (unsigned n = 1; n <= 8; n *= 2)
-        search_row(36, n, early_leaf, "exposed early");
+    for (unsigned k = 0; k < sizeof sizes / sizeof *sizes; k++)
+        search_row(sizes[k], sizes[k] < 8 ? sizes[k] : 8, early_leaf, "exposed early");
     search_row(45, 1, late_leaf, "exposed late");
 }
 
