@@ -1,6 +1,6 @@
 -- What the code's enums tell: of a byte, of a head, of a scan at each head, and of a whole file.
-use Prim.Native.Nat.{ℕ, _+_, _-_, _≤_, _<_}
-use mathlib.Core.Path.{_≡_, refl, sym, ap, _∙_}
+use Prim.Native.Nat.{ℕ, _+_, _-_, _/_, _%_, _≤_, _<_}
+use mathlib.Core.Path.{_≡_, refl, sym, ap, ap₂, subst, _∙_}
 use mathlib.Core.Bool.{Bool, true, false, cond}
 use mathlib.Core.List.{List}
 use native.Mathlib.Omega.{arith}
@@ -11,7 +11,7 @@ use Rattle.files.specs.Encoding.{bytes}
 use Rattle.files.specs.Refusal.{refused, accepted, unframed}
 use Rattle.files.specs.Prefix.{Head, node, stop, Scan, done, fault, andThen, Subterms, below, body, scan}
 use Rattle.files.specs.ReadPolicy.{Byte, tag, unknown, headAt, pairAt, inBytes, finish, readPolicy}
-use Rattle.files.specs.Cases.{sortOf, sortName, shapeName, byteOf, headOf, seen, policyRead, frameOf}
+use Rattle.files.specs.Cases.{sortOf, sortName, shapeName, byteOf, headOf, seen, wordOf, Small, Scans, Tells, policyRead, frameOf}
 use Rattle.files.specs.declared.frame.Frame.{Frame}
 use Rattle.files.specs.declared.policy.Sort.{Sort as SortC}
 use Rattle.files.specs.declared.policy.Shape.{Shape as ShapeC}
@@ -19,6 +19,8 @@ use Rattle.files.specs.declared.policy.Byte.{Byte as ByteC}
 use Rattle.files.specs.declared.policy.Head.{Head as HeadC}
 use Rattle.files.specs.declared.policy.Scanned.{Scanned}
 use Rattle.files.specs.declared.policy.PolicyRead.{PolicyRead}
+use borrow.Author.Tests.{ltb-true}
+use Rattle.ptacl.proofs.Bools.{either}
 use Rattle.files.proofs.Framing.{whole-frame, refused-frame}
 use Rattle.files.proofs.Prefix.{Told, scan-at}
 use Rattle.files.proofs.PolicySteps.{Faulty, byte-laws}
@@ -108,6 +110,46 @@ module _ (most : ℕ) (b : List ℕ) (s : Sort) (left at nodes : ℕ) where
           → (1 ≤ left) × (nodes < most) × (next ≤ length b)
       go (node n q) w e = let k : q ≡ next = cc in (w .shallow, w .few, omega (arith, w .inside))
       go (stop number place) w e = never (cc)
+
+  pub stop-within : (number place : ℕ) → headOf (headAt most b s left at nodes) ≡ HeadC.Stop number place → (number ≤ 7) × (place ≤ length b)
+  stop-within number place = go (headAt most b s left at nodes) (byte-laws most b .head-told s left tt at nodes)
+    where
+      go : (h : Head s) → Told bytes most b (Faulty b) left tt at nodes h → headOf h ≡ HeadC.Stop number place
+          → (number ≤ 7) × (place ≤ length b)
+      go (node n q) w e = never (cc)
+      go (stop m q) w e = let k : m ≡ number = cc in let l : q ≡ place = cc in (omega (arith, w .high), omega (arith, w .within))
+
+-- a number tells what it was made of
+module _ (w : ℕ) where
+  pub tells-done : w < 4294967296 → Tells w (Scanned.Done (w / 256) (w % 256))
+  tells-done l = record { back = λ {t} k. go t (k .word) (k .small) }
+    where
+      go : (t : Scanned) → w ≡ wordOf t → Small t → Scanned.Done (w / 256) (w % 256) ≡ t
+      go (Scanned.Done next nodes) e s = ap₂ Scanned.Done (omega arith) (omega arith)
+      go (Scanned.Fault number place) e s = absurd (omega arith)
+
+  pub tells-fault : 4294967296 ≤ w → Tells w (Scanned.Fault (w % 256) ((w - 4294967296) / 256))
+  tells-fault l = record { back = λ {t} k. go t (k .word) (k .small) }
+    where
+      go : (t : Scanned) → w ≡ wordOf t → Small t → Scanned.Fault (w % 256) ((w - 4294967296) / 256) ≡ t
+      go (Scanned.Done next nodes) e s = absurd (omega arith)
+      go (Scanned.Fault number place) e s = ap₂ Scanned.Fault (omega arith) (omega arith)
+
+pub word-below : {s : Scanned} {w : ℕ} → Scans s w → w < 8589934592
+word-below {s} {w} k = go s (k .word) (k .small)
+  where
+    go : (t : Scanned) → w ≡ wordOf t → Small t → w < 8589934592
+    go (Scanned.Done next nodes) e s = omega arith
+    go (Scanned.Fault number place) e s = omega arith
+
+pub small-pair : (b : List ℕ) (at nodes : ℕ) → length b ≤ 65538 → nodes < 256 → Small (seen (pairAt b at nodes))
+unfolding pairAt
+small-pair b at nodes l n = either (ltb (at + 3) (length b))
+    (λ e. rw e (omega (arith, ltb-true (at + 3) (length b) e), n)) (λ e. rw e (omega arith, omega arith))
+
+-- a number made of what is seen
+pub scans : {s t : Scanned} {w : ℕ} → w ≡ wordOf s → Small s → s ≡ t → Scans t w
+scans e l f = record { word = e ∙ ap wordOf f; small = subst Small f l }
 
 -- a file's answer, by what is seen of its body
 abbrev pub seenFinish : ℕ → Scanned → PolicyRead

@@ -1,4 +1,6 @@
 -- The enums of the code, by cases: what of the definitions each stands for.
+use Prim.Native.Nat.{ℕ, _+_, _*_, _<_}
+use mathlib.Core.Path.{_≡_}
 use Rattle.ptacl.specs.Request.{Request}
 use Rattle.ptacl.specs.Term.{Sort, target, policy, Policy, Shape, numbers, leaf, one, two, shape}
 use Rattle.files.specs.Refusal.{Read, accepted, refused}
@@ -39,6 +41,24 @@ headOf (stop number place) = HeadC.Stop number place
 abbrev pub seen : {A : Type 0} → Scan A → Scanned
 seen (done a next nodes) = Scanned.Done next nodes
 seen (fault number place) = Scanned.Fault number place
+
+-- what is seen as one number: the place behind the term and the nodes up to there; from 2^32 on, a refusal's place and number
+abbrev pub wordOf : Scanned → ℕ
+wordOf (Scanned.Done next nodes) = next * 256 + nodes
+wordOf (Scanned.Fault number place) = 4294967296 + place * 256 + number
+
+-- small enough for the number to tell it
+abbrev pub Small : Scanned → Type 0
+Small (Scanned.Done next nodes) = (next < 16777216) × (nodes < 256)
+Small (Scanned.Fault number place) = (place < 16777216) × (number < 256)
+
+pub record Scans (s : Scanned) (w : ℕ) : Type 0 where
+  pub word : w ≡ wordOf s
+  pub small : Small s
+
+-- the one that a number tells
+pub record Tells (w : ℕ) (s : Scanned) : Type 0 where
+  pub back : {t : Scanned} → Scans t w → s ≡ t
 
 abbrev pub policyRead : Read Policy → PolicyRead
 policyRead (accepted p) = PolicyRead.Accepted

@@ -6,7 +6,7 @@ ghost use Rattle.ptacl.specs.Term.{target, policy};
 ghost use Rattle.files.specs.Prefix.{scan};
 ghost use Rattle.files.specs.ReadPolicy.{byteAt, limitOf, headAt, pairAt, inBytes, readPolicy};
 ghost use Rattle.files.specs.Places.{PolicyFile, BodyOf};
-ghost use Rattle.files.specs.Cases.{sortOf, byteOf, headOf, seen, policyRead};
+ghost use Rattle.files.specs.Cases.{sortOf, byteOf, headOf, seen, wordOf, Small, Scans, Tells, policyRead};
 use crate::frame;
 use crate::frame::Frame;
 use crate::tags;
@@ -141,22 +141,50 @@ fn read_numbers(file: &[u8], at: usize, nodes: usize) -> Scanned
     }
 }
 
+// A scan as one number: a call hands it back in a register, where it would copy an enum at each return.
+fn word_of(scanned: Scanned) -> u64
+    requires { ⌜ Small scanned ⌝ }
+    ensures { λ r. ⌜ r ≡ wordOf scanned ⌝ }
+{
+    match scanned {
+        Scanned::Done { next, nodes } => next as u64 * 256 + nodes as u64,
+        Scanned::Fault { number, place } => 4294967296 + place as u64 * 256 + number as u64,
+    }
+}
+
+fn scanned_of(word: u64) -> Scanned
+    requires { ⌜ word < 8589934592 ⌝ }
+    ensures { λ r. ⌜ Tells word r ⌝ }
+{
+    if word < 4294967296 {
+        return Scanned::Done {
+            next: (word / 256) as usize,
+            nodes: (word % 256) as usize,
+        };
+    }
+    Scanned::Fault {
+        number: (word % 256) as u8,
+        place: ((word - 4294967296) / 256) as usize,
+    }
+}
+
 // A term at `at`, with `left` of the depth left and `nodes` nodes before it.
-fn read_term(file: &[u8], sort: Sort, left: usize, at: usize, nodes: usize) -> Scanned
-    ensures { λ r. ⌜ r ≡ seen (scan (inBytes 255 (now (file .entry))) left (sortOf sort) tt at nodes) ⌝ }
+fn read_term(file: &[u8], sort: Sort, left: usize, at: usize, nodes: usize) -> u64
+    requires { ⌜ length (now file) ≤ 65538 ⌝ }
+    ensures { λ r. ⌜ Scans (seen (scan (inBytes 255 (now (file .entry))) left (sortOf sort) tt at nodes)) r ⌝ }
 {
     match head_at(file, sort, left, at, nodes) {
-        Head::Stop { number, place } => Scanned::Fault { number, place },
+        Head::Stop { number, place } => word_of(Scanned::Fault { number, place }),
         Head::Node { shape, next } => {
             let nodes = nodes + 1;
             let below = left - 1;
             match shape {
-                Shape::Numbers => read_numbers(file, next, nodes),
-                Shape::Leaf => Scanned::Done { next, nodes },
+                Shape::Numbers => word_of(read_numbers(file, next, nodes)),
+                Shape::Leaf => word_of(Scanned::Done { next, nodes }),
                 Shape::One => read_term(file, sort, below, next, nodes),
-                Shape::Two(first) => match read_term(file, first, below, next, nodes) {
+                Shape::Two(first) => match scanned_of(read_term(file, first, below, next, nodes)) {
                     Scanned::Done { next, nodes } => read_term(file, sort, below, next, nodes),
-                    Scanned::Fault { number, place } => Scanned::Fault { number, place },
+                    Scanned::Fault { number, place } => word_of(Scanned::Fault { number, place }),
                 },
             }
         }
@@ -169,7 +197,7 @@ pub fn read_policy(file: &[u8]) -> PolicyRead
     if let Frame::Refused { number, place } = frame::unframe(file, 1) {
         return PolicyRead::Refused { number, place };
     }
-    match read_term(file, Sort::Policy, 32, 3, 0) {
+    match scanned_of(read_term(file, Sort::Policy, 32, 3, 0)) {
         Scanned::Done { next, nodes: _ } => {
             if next < file.len() {
                 PolicyRead::Refused {
