@@ -28,13 +28,17 @@ module _ (most : ℕ) (b : List ℕ) {s : Sort} (left at nodes : ℕ) where
   head-unknown h k = simp (lt-ltb _ _ h, k)
 
   module _ (n : Node s) (h : at < length b) (k : byteAt s (getD b at 0) ≡ tag n) where
-    pub head-limit : (limitOf most left nodes ≡ 0 → ⊥) → headAt most b s left at nodes ≡ stop (limitOf most left nodes) at
+    pub head-deep : left ≡ 0 → headAt most b s left at nodes ≡ stop 6 at
     unfolding headAt
-    head-limit l = simp (lt-ltb _ _ h, k, ne-eqb _ _ l)
+    head-deep e = simp (lt-ltb _ _ h, k, eq-eqb _ _ e)
 
-    pub head-node : limitOf most left nodes ≡ 0 → headAt most b s left at nodes ≡ node n (at + 1)
+    pub head-many : (left ≡ 0 → ⊥) → most ≤ nodes → headAt most b s left at nodes ≡ stop 7 at
     unfolding headAt
-    head-node l = simp (lt-ltb _ _ h, k, eq-eqb _ _ l)
+    head-many e l = simp (lt-ltb _ _ h, k, ne-eqb _ _ e, le-ltb _ _ l)
+
+    pub head-node : (left ≡ 0 → ⊥) → nodes < most → headAt most b s left at nodes ≡ node n (at + 1)
+    unfolding headAt
+    head-node e l = simp (lt-ltb _ _ h, k, ne-eqb _ _ e, lt-ltb _ _ l)
 
 -- a byte that is found is the node's own
 found : {s : Sort} (ns : List (Node s)) (b : ℕ) (n : Node s) → find ns b ≡ tag n → b ≡ tagOf n
@@ -116,9 +120,7 @@ module _ (most : ℕ) (b : List ℕ) where
 
   head-reads : (s : Sort) (n : Node s) (left : ℕ) (end : Unit {0}) (at k : ℕ) → At b at (tagOf n ∷ []) → 1 ≤ left → k < most
       → headAt most b s left at k ≡ node n (at + 1)
-  head-reads s n left end at k h l m =
-      let o : limitOf most left k ≡ 0 = simp (ne-eqb left 0 (λ e. omega arith), lt-ltb k most m) in
-      head-node most b left at k n (room h) (ap (byteAt s) (head h) ∙ known n) o
+  head-reads s n left end at k h l m = head-node most b left at k n (room h) (ap (byteAt s) (head h) ∙ known n) (λ e. omega arith) m
 
   pair-reads : (n v : ℕ) (end : Unit {0}) (at k : ℕ) → Unit {0} → At b at (big n (big v [])) → pairAt b at k ≡ done (n, v) (at + 4) k
   unfolding pairAt

@@ -4,7 +4,7 @@ ghost use Prim.Native.Nat.{_<_, _≤_};
 ghost use lib.ListN.{length};
 ghost use Rattle.ptacl.specs.Term.{target, policy};
 ghost use Rattle.files.specs.Prefix.{scan};
-ghost use Rattle.files.specs.ReadPolicy.{byteAt, limitOf, headAt, pairAt, inBytes, readPolicy};
+ghost use Rattle.files.specs.ReadPolicy.{byteAt, headAt, pairAt, inBytes, readPolicy};
 ghost use Rattle.files.specs.Places.{PolicyFile, BodyOf};
 ghost use Rattle.files.specs.Cases.{sortOf, byteOf, headOf, seen, wordOf, Small, Scans, Tells, policyRead};
 use crate::frame;
@@ -82,19 +82,6 @@ fn byte_at(sort: Sort, b: u8) -> Byte
     }
 }
 
-// The first fault at a node with a tag: 6 where no depth is left, 7 where 255 nodes are there already, else 0.
-fn limit(left: usize, nodes: usize) -> u8
-    ensures { λ r. ⌜ r ≡ limitOf 255 left nodes ⌝ }
-{
-    if left == 0 {
-        6
-    } else if nodes < 255 {
-        0
-    } else {
-        7
-    }
-}
-
 fn head_at(file: &[u8], sort: Sort, left: usize, at: usize, nodes: usize) -> Head
     ensures { λ r. ⌜ r ≡ headOf (headAt 255 (now (file .entry)) (sortOf sort) left at nodes) ⌝ }
 {
@@ -106,14 +93,21 @@ fn head_at(file: &[u8], sort: Sort, left: usize, at: usize, nodes: usize) -> Hea
     }
     match byte_at(sort, file[at]) {
         Byte::Tag(shape) => {
-            let number = limit(left, nodes);
-            if number == 0 {
-                Head::Node {
-                    shape,
-                    next: at + 1,
-                }
-            } else {
-                Head::Stop { number, place: at }
+            if left == 0 {
+                return Head::Stop {
+                    number: 6,
+                    place: at,
+                };
+            }
+            if 255 <= nodes {
+                return Head::Stop {
+                    number: 7,
+                    place: at,
+                };
+            }
+            Head::Node {
+                shape,
+                next: at + 1,
             }
         }
         Byte::Unknown => Head::Stop {

@@ -1,12 +1,13 @@
 -- At each `return` the tests that led there say which case of a head it is.
-use Prim.Native.Nat.{ℕ, _+_}
+use Prim.Native.Nat.{_+_, _<_}
 use mathlib.Core.Path.{sym, ap, _∙_}
-use lib.ListN.{getD}
+use native.Mathlib.Omega.{arith}
+use lib.ListN.{length, getD}
 use borrow.Author.Needs.{needs}
 use Rattle.files.specs.ReadPolicy.{byteAt}
 use Rattle.files.specs.Cases.{sortOf, headOf}
 use Rattle.files.specs.declared.policy.Head.{Head}
-use Rattle.files.proofs.PolicySteps.{head-cut, head-unknown, head-limit, head-node}
+use Rattle.files.proofs.PolicySteps.{head-cut, head-unknown, head-deep, head-many, head-node}
 use Rattle.files.proofs.PolicySeen.{Names, byte-tag, byte-unknown}
 use Rattle.files.proofs.policy.head_at.Statement.{statement}
 use Rattle.files.proofs.policy.head_at.Tie as tie
@@ -20,24 +21,30 @@ named : (c : tie.After-shape) →
     Names (byteAt (sortOf (a .sort)) (getD (a .file .now) (a .at) 0)) (c .shape .given .0 .0)
 named c = byte-tag _ _ (sym (c .before .before .byte-at .ensures) ∙ c .shape .given .1)
 
+-- the place of the tag is inside
+inside : (c : tie.After-shape) →
+    let a = c .before .before .before .before .before .before .args in
+    a .at < length (a .file .now)
+inside c = omega (arith, c .before .before .before .before .if1 .left)
+
 returns-2 : tie.Need-returns-2
 returns-2 c =
-    let d = c .before .before .before in
-    let w = named d in
-    let l = sym (c .before .limit .ensures) ∙ c .if2 .taken in
-    ap (λ g. Head.Node g (d .before .before .before .before .before .before .args .at + 1)) (sym (w .so))
-    ∙ ap (λ h. headOf h) (sym (head-node _ _ _ _ _ (w .its) (d .before .before .before .before .if1 .left) (w .is) l))
+    let d = c .before .before in
+    ap (λ h. headOf h) (sym (head-deep _ _ _ _ _ (named d .its) (inside d) (named d .is) (c .if2 .taken)))
 
 returns-3 : tie.Need-returns-3
 returns-3 c =
     let d = c .before .before .before in
-    let i = d .before .before .before .before in
-    let w = named d in
-    ap (λ (n : ℕ). Head.Stop n (i .before .before .args .at)) (c .before .limit .ensures)
-    ∙ ap (λ h. headOf h) (sym (head-limit _ _ _ _ _ (w .its) (i .if1 .left) (w .is) (λ e. c .if2 .left (c .before .limit .ensures ∙ e))))
+    ap (λ h. headOf h) (sym (head-many _ _ _ _ _ (named d .its) (inside d) (named d .is) (c .before .if2 .left) (c .if3 .taken)))
 
 returns-4 : tie.Need-returns-4
 returns-4 c =
+    let d = c .before .before .before in
+    ap (λ g. Head.Node g (d .before .before .before .before .before .before .args .at + 1)) (sym (named d .so))
+    ∙ ap (λ h. headOf h) (sym (head-node _ _ _ _ _ (named d .its) (inside d) (named d .is) (c .before .if2 .left) (omega (arith, c .if3 .left))))
+
+returns-5 : tie.Need-returns-5
+returns-5 c =
     let d = c .before .before in
     let e = byte-unknown _ (sym (d .byte-at .ensures) ∙ c .enum-told .given .1) in
     ap (λ h. headOf h) (sym (head-unknown _ _ _ _ _ (d .before .before .if1 .left) e))
@@ -50,9 +57,9 @@ head-at-spec =
     (λ c. search needs)
     (λ c κs. search needs)
     (λ c. search needs)
-    (λ c κs. search needs)
-    (λ c. search needs)
-    (λ c. search needs)
     returns-2
     returns-3
-    returns-4)
+    (λ c. search needs)
+    (λ c. search needs)
+    returns-4
+    returns-5)
