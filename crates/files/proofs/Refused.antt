@@ -27,4 +27,4 @@ pub policy-refused-iff : (s : List ℕ) → Bytes s → IsRefusal (readPolicy s)
 policy-refused-iff s b = no-such (readPolicy s) (policy-exact s b)
 
 pub request-refused-iff : (s : List ℕ) → Bytes s → IsRefusal (readRequest s) ↔ ((q : Request) → IsRequest s q → ⊥)
-request-refused-iff s b = no-such (readRequest s) (request-exact s b)
+request-refused-iff s b = no-such (readRequest s) (request-exact 21 s b)

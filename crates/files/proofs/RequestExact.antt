@@ -1,5 +1,5 @@
 -- A file is read as a request exactly if it is that request's file; what a read request gives the passes behind it.
-use Prim.Native.Nat.{ℕ, _-_, _/_, _≤_}
+use Prim.Native.Nat.{ℕ, _+_, _-_, _/_, _≤_, _<_}
 use mathlib.Core.Path.{_≡_, refl, sym, ap, subst, _∙_}
 use mathlib.Core.Logic.{_↔_}
 use mathlib.Core.Bool.{true≢false}
@@ -11,7 +11,7 @@ use Rattle.ptacl.specs.Pairs.{unpacked}
 use Rattle.files.specs.declared.request.RequestRead.{RequestRead}
 use Rattle.files.specs.Encoding.{framed, pairBytes, requestFile, FitsRequest, IsRequest, Bytes}
 use Rattle.files.specs.Refusal.{Read, accepted, refused}
-use Rattle.files.specs.ReadRequest.{pairsAt, inOrder, readRequest}
+use Rattle.files.specs.ReadRequest.{pairsAt, inOrder, readRequestFrom}
 use Rattle.files.specs.Places.{numbersOf}
 use Rattle.files.specs.Cases.{requestRead}
 use Rattle.files.proofs.Numbers.{map-unpacked-packed}
@@ -34,28 +34,28 @@ request-file-injective q r e =
 clash {ℓ} : {A : Type ℓ} {r : Read Request} {n p : ℕ} {q : Request} → r ≡ refused n p → r ≡ accepted q → A
 clash e f = let z : _≡_ {A = ℕ} 0 1 = cc in absurd (omega arith)
 
-pub reads : (q : Request) → FitsRequest q → readRequest (requestFile q) ≡ accepted q
+pub reads : (first : ℕ) (q : Request) → FitsRequest q → readRequestFrom first (requestFile q) ≡ accepted q
 unfolding requestFile
-reads q f =
+reads first q f =
     let s : List ℕ = requestFile q in
     let l = request-length q in
     let few = f .few in
     let n : (length s - 3) / 4 ≡ length q = omega arith in
     let e : pairsAt ((length s - 3) / 4) s 3 ≡ q = ap (λ k. pairsAt k s 3) n ∙ file-pairs q in
-    request-pairs (framed-whole (pairBytes q)) (omega arith) (omega arith) ∙ ap (λ ps. inOrder ps 3 ps) e ∙ up (ordering q 3 q)
+    request-pairs first (framed-whole (pairBytes q)) (omega arith) (omega arith) ∙ ap (λ ps. inOrder (first + 5) ps 3 ps) e ∙ up (ordering (first + 5) q 3 q)
   where
-    up : Ordering q 3 q → inOrder q 3 q ≡ accepted q
+    up : Ordering (first + 5) q 3 q → inOrder (first + 5) q 3 q ≡ accepted q
     up (ascends a i) = i
     up (falls k m l a i) = absurd (true≢false (sym (f .ordered) ∙ a))
 
-pub request-reads : {s : List ℕ} {q : Request} → IsRequest s q → readRequest s ≡ accepted q
-request-reads {q = q} i = ap readRequest (i .file) ∙ reads q (i .fits)
+pub request-reads : (first : ℕ) {s : List ℕ} {q : Request} → IsRequest s q → readRequestFrom first s ≡ accepted q
+request-reads first {q = q} i = ap (readRequestFrom first) (i .file) ∙ reads first q (i .fits)
 
-pub request-exact : (s : List ℕ) → Bytes s → (q : Request) → (readRequest s ≡ accepted q) ↔ IsRequest s q
+pub request-exact : (first : ℕ) (s : List ℕ) → Bytes s → (q : Request) → (readRequestFrom first s ≡ accepted q) ↔ IsRequest s q
 unfolding requestFile
-request-exact s b q = (λ e. at (outcome s) e, request-reads)
+request-exact first s b q = (λ e. at (outcome first s) e, request-reads first)
   where
-    at : Outcome s → readRequest s ≡ accepted q → IsRequest s q
+    at : Outcome first s → readRequestFrom first s ≡ accepted q → IsRequest s q
     at (bad n p l h m r) e = clash r e
     at (good w n few l a r) e =
         let d : pairsAt n s 3 ≡ q = cc in
@@ -65,27 +65,22 @@ request-exact s b q = (λ e. at (outcome s) e, request-reads)
           fits = record { few = omega arith; ordered = a; range = pairs-range b n 3 };
         })
 
-pub request-refused-range : (s : List ℕ) {n p : ℕ} → readRequest s ≡ refused n p → (21 ≤ n) × (n ≤ 26) × (p ≤ 1027)
-request-refused-range s {n} {p} e = at (outcome s)
+pub request-refused-range : (first : ℕ) (s : List ℕ) {n p : ℕ}
+    → 0 < first → first < 251 → readRequestFrom first s ≡ refused n p → (0 < n) × (n < 256) × (p ≤ 65538)
+request-refused-range first s {n} {p} f g e = at (outcome first s)
   where
-    at : Outcome s → (21 ≤ n) × (n ≤ 26) × (p ≤ 1027)
+    at : Outcome first s → (0 < n) × (n < 256) × (p ≤ 65538)
     at (bad m q l h k r) = let a : m ≡ n = cc in let b : q ≡ p = cc in (omega arith, omega arith, omega arith)
     at (good w m few l a r) = clash e r
 
 -- what the code's answer for a file tells
-pub request-accepted : (s : List ℕ) → requestRead (readRequest s) ≡ RequestRead.Accepted → (q : Request) × (readRequest s ≡ accepted q)
-request-accepted s e = go (readRequest s) e
-  where
-    go : (x : Read Request) → requestRead x ≡ RequestRead.Accepted → (q : Request) × (x ≡ accepted q)
-    go (accepted q) e = (q, refl)
-    go (refused m p) e = let z : _≡_ {A = ℕ} 0 1 = cc in absurd (omega arith)
+pub request-accepted : (x : Read Request) → requestRead x ≡ RequestRead.Accepted → (q : Request) × (x ≡ accepted q)
+request-accepted (accepted q) e = (q, refl)
+request-accepted (refused n p) e = let z : _≡_ {A = ℕ} 0 1 = cc in absurd (omega arith)
 
-pub request-refused : (s : List ℕ) {n p : ℕ} → requestRead (readRequest s) ≡ RequestRead.Refused n p → readRequest s ≡ refused n p
-request-refused s {n} {p} e = go (readRequest s) e
-  where
-    go : (x : Read Request) → requestRead x ≡ RequestRead.Refused n p → x ≡ refused n p
-    go (accepted q) e = let z : _≡_ {A = ℕ} 0 1 = cc in absurd (omega arith)
-    go (refused m q) e = cc
+pub request-refused : (x : Read Request) {n p : ℕ} → requestRead x ≡ RequestRead.Refused n p → x ≡ refused n p
+request-refused (accepted q) e = let z : _≡_ {A = ℕ} 0 1 = cc in absurd (omega arith)
+request-refused (refused m q) e = cc
 
 -- the numbers of a request's file are those of its pairs
 pub numbers-request : {s : List ℕ} {q : Request} → IsRequest s q → map unpacked (numbersOf s) ≡ q

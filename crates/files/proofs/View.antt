@@ -179,23 +179,17 @@ module _ {b : List ℕ} {i : ℕ} {s : Sort} {count : ℕ} (p : Has s b i count)
   has-first (an-and e) = parts (anAnd s) e p .0
 
 -- what the code's answer for a file tells
-pub policy-accepted : (s : List ℕ) → policyRead (readPolicy s) ≡ PolicyRead.Accepted → (p : Policy) × (readPolicy s ≡ accepted p)
-policy-accepted s e = go (readPolicy s) e
-  where
-    go : (x : Read Policy) → policyRead x ≡ PolicyRead.Accepted → (p : Policy) × (x ≡ accepted p)
-    go (accepted p) e = (p, refl)
-    go (refused m q) e = let z : _≡_ {A = ℕ} 0 1 = cc in absurd (omega arith)
+pub policy-accepted : (x : Read Policy) → policyRead x ≡ PolicyRead.Accepted → (p : Policy) × (x ≡ accepted p)
+policy-accepted (accepted p) e = (p, refl)
+policy-accepted (refused n at) e = let z : _≡_ {A = ℕ} 0 1 = cc in absurd (omega arith)
 
-pub policy-refused : (s : List ℕ) {n p : ℕ} → policyRead (readPolicy s) ≡ PolicyRead.Refused n p → readPolicy s ≡ refused n p
-policy-refused s {n} {p} e = go (readPolicy s) e
-  where
-    go : (x : Read Policy) → policyRead x ≡ PolicyRead.Refused n p → x ≡ refused n p
-    go (accepted r) e = let z : _≡_ {A = ℕ} 0 1 = cc in absurd (omega arith)
-    go (refused m q) e = cc
+pub policy-refused : (x : Read Policy) {n p : ℕ} → policyRead x ≡ PolicyRead.Refused n p → x ≡ refused n p
+policy-refused (accepted p) e = let z : _≡_ {A = ℕ} 0 1 = cc in absurd (omega arith)
+policy-refused (refused n at) e = cc
 
 -- a file that was accepted; its body, which begins with the policy's first byte
 pub policy-file : {s : List ℕ} → Bytes s → policyRead (readPolicy s) ≡ PolicyRead.Accepted → PolicyFile s
-policy-file {s} b e = let a = policy-accepted s e in record { term = a .0; file = policy-exact s b (a .0) .0 (a .1) }
+policy-file {s} b e = let a = policy-accepted (readPolicy s) e in record { term = a .0; file = policy-exact s b (a .0) .0 (a .1) }
 
 pub file-long : {s : List ℕ} → PolicyFile s → 3 ≤ length s
 unfolding policyFile framed

@@ -2,7 +2,7 @@
 ghost use mathlib.Core.Path.{_≡_};
 ghost use Prim.Native.Nat.{_+_, _*_, _≤_, _<_};
 ghost use lib.ListN.{length, getD};
-ghost use Rattle.files.specs.ReadRequest.{pairsAt, inOrder, readRequest};
+ghost use Rattle.files.specs.ReadRequest.{pairsAt, inOrder, readRequestFrom};
 ghost use Rattle.files.specs.Places.{numbersOf};
 ghost use Rattle.files.specs.Cases.{requestRead};
 use crate::bytes;
@@ -14,10 +14,10 @@ pub enum RequestRead {
     Refused { number: u8, place: usize },
 }
 
-// Whether each pair of a file is above the one before.
-fn read_pairs(file: &[u8], count: usize) -> RequestRead
+// Whether each pair of a file is above the one before; else a refusal with this number.
+fn read_pairs(file: &[u8], count: usize, number: u8) -> RequestRead
     requires { ⌜ (count ≤ 256) × (3 + 4 * count ≤ length (now file)) ⌝ }
-    ensures { λ r. ⌜ r ≡ requestRead (inOrder (pairsAt count (now (file .entry)) 3) 3 (pairsAt count (now (file .entry)) 3)) ⌝ }
+    ensures { λ r. ⌜ r ≡ requestRead (inOrder number (pairsAt count (now (file .entry)) 3) 3 (pairsAt count (now (file .entry)) 3)) ⌝ }
 {
     let mut last = 0u32;
     let mut i = 0;
@@ -26,7 +26,7 @@ fn read_pairs(file: &[u8], count: usize) -> RequestRead
         if 0 < i {
             if pair <= last {
                 return RequestRead::Refused {
-                    number: 26,
+                    number,
                     place: 3 + 4 * i,
                 };
             }
@@ -37,27 +37,29 @@ fn read_pairs(file: &[u8], count: usize) -> RequestRead
     RequestRead::Accepted
 }
 
-pub fn read_request(file: &[u8]) -> RequestRead
-    ensures { λ r. ⌜ r ≡ requestRead (readRequest (now (file .entry))) ⌝ }
+// The first refusal of a request file, numbered from `first` on.
+pub fn read_request(file: &[u8], first: u8) -> RequestRead
+    requires { ⌜ first < 251 ⌝ }
+    ensures { λ r. ⌜ r ≡ requestRead (readRequestFrom first (now (file .entry))) ⌝ }
 {
-    if let Frame::Refused { number, place } = frame::unframe(file, 21) {
+    if let Frame::Refused { number, place } = frame::unframe(file, first) {
         return RequestRead::Refused { number, place };
     }
     let body = file.len() - 3;
     if body % 4 != 0 {
         return RequestRead::Refused {
-            number: 24,
+            number: first + 3,
             place: 3,
         };
     }
     let count = body / 4;
     if 256 < count {
         return RequestRead::Refused {
-            number: 25,
+            number: first + 4,
             place: 1027,
         };
     }
-    read_pairs(file, count)
+    read_pairs(file, count, first + 5)
 }
 
 // How many pairs a request file holds.

@@ -47,7 +47,7 @@ module _ {A M : Type 0} where
   policy-one o = reads-one (λ p f. policy-reads f) o
 
   pub request-one : {request : List ℕ} {before : M} {follows : Request → Promise A M} → ((q : Request) → One (follows q)) → One (OfRequest request before follows)
-  request-one o = reads-one (λ q f. request-reads f) o
+  request-one o = reads-one (λ q f. request-reads 21 f) o
 
   pub the-one : {T : Type 0} {Is : T → Type 0} {follows : T → Promise A M}
       → ((t u : T) → Is t → Is u → t ≡ u) → ((t : T) → One (follows t)) → One (The Is follows)

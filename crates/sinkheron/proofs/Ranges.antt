@@ -68,8 +68,7 @@ module _ {A M : Type 0} {can : A → Type 0} where
 
   request-ranged : {request : List ℕ} {before : M} {follows : Request → Promise A M}
       → ((q : Request) → IsRequest request q → Ranged can (follows q)) → Ranged can (OfRequest request before follows)
-  request-ranged {request} o =
-      reads-ranged (λ n at e. let r = request-refused-range request e in (omega (arith, r .0), omega (arith, r .1), omega (arith, r .2))) o
+  request-ranged {request} o = reads-ranged (λ n at e. request-refused-range 21 request (omega arith) (omega arith) e) o
 
   the-ranged : {T : Type 0} {Is : T → Type 0} {follows : T → Promise A M} → ((t : T) → Is t → Ranged can (follows t)) → Ranged can (The Is follows)
   the-ranged o x m (the {t} h d) = o t h x m d

@@ -51,7 +51,7 @@ pub record Sent (s : List ℕ) : Type 0 where
 request-sent : {s : List ℕ} {q : Request} → ((i : ℕ) → Fits w8 (getD s i 0)) → readRequest s ≡ accepted q → Sent s
 unfolding requestFile framed
 request-sent {s} {q} b e =
-    let i = request-exact s (lent-bytes b) q .0 e in
+    let i = request-exact 21 s (lent-bytes b) q .0 e in
     let n = numbers-request i in
     record {
       request = q;

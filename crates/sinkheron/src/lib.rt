@@ -63,7 +63,7 @@ fn read_files(policy: &[u8], request: &[u8]) -> FilesRead
 {
     match files::policy::read_policy(policy) {
         PolicyRead::Refused { number, place } => FilesRead::Refused { number, place },
-        PolicyRead::Accepted => match files::request::read_request(request) {
+        PolicyRead::Accepted => match files::request::read_request(request, 21) {
             RequestRead::Refused { number, place } => FilesRead::Refused { number, place },
             RequestRead::Accepted => FilesRead::Accepted,
         },

@@ -11,28 +11,13 @@ use Rattle.files.proofs.request.read_pairs.Statement.{statement}
 use Rattle.files.proofs.request.read_pairs.Tie as tie
 
 abbrev Inv-loop : tie.InvT-loop
-Inv-loop file count last₀ i₀ last i = Reading file count last i
+Inv-loop file count number last₀ i₀ last i = Reading number file count last i
 
 abbrev μ-loop : tie.MeasureT-loop
-μ-loop file count last₀ i₀ last i = count - i
+μ-loop file count number last₀ i₀ last i = count - i
 
 loop-holds : tie.Need-loop-holds Inv-loop μ-loop
-loop-holds c = reading-start _ _ _
-
-mul-pair : tie.Need-mul-pair Inv-loop μ-loop
-mul-pair c = search needs
-
-add-pair : tie.Need-add-pair Inv-loop μ-loop
-add-pair c = search needs
-
-pair-requires : tie.Need-pair-requires Inv-loop μ-loop
-pair-requires c κs = search needs
-
-mul-t10 : tie.Need-mul-t10 Inv-loop μ-loop
-mul-t10 c = search needs
-
-add-t11 : tie.Need-add-t11 Inv-loop μ-loop
-add-t11 c = search needs
+loop-holds c = reading-start _ _ _ _
 
 returns : tie.Need-returns Inv-loop μ-loop
 returns c =
@@ -40,12 +25,6 @@ returns c =
     let b = lent-bytes (c .before .before .before .before .before .shared-slice-known .given) in
     let x = c .before .before .pair .ensures in
     ap requestRead (sym (reading-fault r b (search needs) x (search needs) (search needs)))
-
-add-i : tie.Need-add-i Inv-loop μ-loop
-add-i c = search needs
-
-loop-less : tie.Need-loop-less Inv-loop μ-loop
-loop-less c = search needs
 
 loop-again : tie.Need-loop-again Inv-loop μ-loop
 loop-again c =
@@ -63,13 +42,13 @@ read-pairs-spec =
     Inv-loop
     μ-loop
     loop-holds
-    mul-pair
-    add-pair
-    pair-requires
-    mul-t10
-    add-t11
+    (λ c. search needs)
+    (λ c. search needs)
+    (λ c κs. search needs)
+    (λ c. search needs)
+    (λ c. search needs)
     returns
-    add-i
-    loop-less
+    (λ c. search needs)
+    (λ c. search needs)
     loop-again
     returns-2)
