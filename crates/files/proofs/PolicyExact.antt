@@ -1,5 +1,5 @@
 -- Reading a policy file accepts exactly the files of policies within the limits, and a refusal has a number and place in bounds.
-use Prim.Native.Nat.{ℕ, _≤_}
+use Prim.Native.Nat.{ℕ, _≤_, _<_}
 use mathlib.Core.Path.{_≡_, refl, sym, ap, subst, _∙_}
 use mathlib.Core.Bool.{Bool, true, false, cond}
 use mathlib.Core.Logic.{_↔_}
@@ -22,7 +22,7 @@ use Rattle.files.proofs.PolicyComplete.{read-file}
 -- what reading may give
 abbrev Gives : List ℕ → Read Policy → Type 0
 Gives s (accepted p) = IsPolicy s p
-Gives s (refused n p) = (1 ≤ n) × (n ≤ 8) × (p ≤ 65538)
+Gives s (refused n p) = (0 < n) × (n < 256) × (p ≤ 65538)
 
 module _ (s : List ℕ) (bs : Bytes s) where
   finished : WholeFile s → (x : Scan Policy) → Good (inBytes 255 s) 255 s (byte-laws 255 s) 32 tt 3 0 x → Gives s (finish (length s) x)
@@ -48,7 +48,7 @@ module _ (s : List ℕ) (bs : Bytes s) where
       (λ w. finished w x (good (inBytes 255 s) 255 s (byte-laws 255 s) (pairs-told 255 s bs) 32 policy tt 3 0 (w .long))) (framing 1 s)
     where
       go : (x : Read Policy) → (WholeFile s → Gives s x) → Framing 1 s → Gives s (unframed 1 s x)
-      go x f (faulty n p r) = rw (r .given x) (r .low, omega (arith, r .high), omega (arith, r .place))
+      go x f (faulty n p r) = rw (r .given x) (omega (arith, r .low), omega (arith, r .high), omega (arith, r .place))
       go x f (whole w) = rw (unframed-whole 1 s x (w .long) (w .version) (w .stated)) (f w)
 
 -- whatever its bytes, the file of a policy within the limits is read as it
@@ -59,5 +59,5 @@ policy-reads {p = p} f = ap readPolicy (f .file) ∙ read-file p (f .fits)
 pub policy-exact : (s : List ℕ) → Bytes s → (p : Policy) → (readPolicy s ≡ accepted p) ↔ IsPolicy s p
 policy-exact s bs p = ((λ e. subst (Gives s) e (gives s bs)), policy-reads)
 
-pub refused-place : {s : List ℕ} {n p : ℕ} → readPolicy s ≡ refused n p → Bytes s → (1 ≤ n) × (n ≤ 8) × (p ≤ 65538)
+pub refused-place : {s : List ℕ} {n p : ℕ} → readPolicy s ≡ refused n p → Bytes s → (0 < n) × (n < 256) × (p ≤ 65538)
 refused-place {s} e bs = subst (Gives s) e (gives s bs)

@@ -64,7 +64,7 @@ module _ {A M : Type 0} {can : A → Type 0} where
 
   policy-ranged : {policy : List ℕ} {before : M} {follows : Policy → Promise A M}
       → Bytes policy → ((p : Policy) → IsPolicy policy p → Ranged can (follows p)) → Ranged can (OfPolicy policy before follows)
-  policy-ranged b o = reads-ranged (λ n at e. let r = refused-place e b in (omega (arith, r .0), omega (arith, r .1), r .2)) o
+  policy-ranged b o = reads-ranged (λ n at e. refused-place e b) o
 
   request-ranged : {request : List ℕ} {before : M} {follows : Request → Promise A M}
       → ((q : Request) → IsRequest request q → Ranged can (follows q)) → Ranged can (OfRequest request before follows)
