@@ -10,11 +10,8 @@ sub-result c = file-long (c .pre)
 part-result-start : tie.Need-part-result-start
 part-result-start c = file-long (c .pre)
 
-part-result-end : tie.Need-part-result-end
-part-result-end c = search needs
-
 returns : tie.Need-returns
 returns c = behind-frame (c .before .pre)
 
 pub body-spec : {M : Type 1} → statement M
-body-spec = tie.close (tie.spec sub-result part-result-start part-result-end returns)
+body-spec = tie.close (tie.spec sub-result part-result-start (λ c. search needs) returns)

@@ -5,11 +5,8 @@ use Rattle.files.proofs.RequestBody.{numbers-length}
 use Rattle.files.proofs.request.count.Statement.{statement}
 use Rattle.files.proofs.request.count.Tie as tie
 
-sub-result : tie.Need-sub-result
-sub-result c = search needs
-
 returns : tie.Need-returns
 returns c = sym (numbers-length _)
 
 pub count-spec : {M : Type 1} → statement M
-count-spec = tie.close (tie.spec sub-result returns)
+count-spec = tie.close (tie.spec (λ c. search needs) returns)
