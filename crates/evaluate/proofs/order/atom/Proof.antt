@@ -22,9 +22,6 @@ other-name : (c : tie.Joined1) →
 other-name c l e = ⊎-elim (λ w. w .3 .left (ap (λ z. z / 65536) (w .1 .ensures) ∙ e)) (λ w. absurd (omega (arith, c .before .count .ensures, w .left)))
     (c .if1 .came)
 
-place-of-requires : tie.Need-place-of-requires
-place-of-requires c κs = search needs
-
 count-requires : tie.Need-count-requires
 count-requires c κs = c .before .before .pre .long
 
@@ -42,9 +39,6 @@ returns-2 c =
     let e = c .before .before .nth .ensures in
     atom-zero (p .before .before .pre .ordered) _ _ (p .place-of .ensures) _ (inside (c .before .before .before))
     (ap (λ z. z / 65536) (sym e) ∙ c .if3 .taken) (λ l f. c .before .if2 .left (e ∙ f))
-
-sub-nth : tie.Need-sub-nth
-sub-nth c = search needs
 
 nth-requires-2 : tie.Need-nth-requires-2
 nth-requires-2 c κs = omega (arith, c .before .before .before .place-of .ensures .most, c .if4 .taken)
@@ -70,12 +64,12 @@ pub atom-spec : {M : Type 1} → statement M
 atom-spec =
     tie.close
     (tie.spec
-    place-of-requires
+    (λ c κs. search needs)
     count-requires
     nth-requires
     returns
     returns-2
-    sub-nth
+    (λ c. search needs)
     nth-requires-2
     returns-3
     returns-4

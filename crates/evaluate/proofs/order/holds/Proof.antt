@@ -19,18 +19,6 @@ answered c e =
     let a = c .before .before .args in
     ap (λ v. same (valueOf v) v1) (sym e) ∙ (ap (λ v. same v v1) (c .atom .ensures) ∙ is-held (map unpacked (numbersOf (a .file .now))) (unpacked (a .pair)))
 
-atom-requires : tie.Need-atom-requires
-atom-requires c κs = search needs
-
-enum-told : tie.Need-enum-told
-enum-told c = search needs
-
-enum-told-2 : tie.Need-enum-told-2
-enum-told-2 c = search needs
-
-enum-told-3 : tie.Need-enum-told-3
-enum-told-3 c = search needs
-
 returns : tie.Need-returns
 returns c = answered (c .before .before) (c .enum-told .given .1)
 
@@ -43,4 +31,4 @@ returns-3 c = answered (c .before .before) (c .enum-told3 .given .1)
 pub holds-spec : {M : Type 1} → statement M
 holds-spec =
     tie.close
-    (tie.spec atom-requires enum-told enum-told-2 enum-told-3 returns returns-2 returns-3)
+    (tie.spec (λ c κs. search needs) (λ c. search needs) (λ c. search needs) (λ c. search needs) returns returns-2 returns-3)

@@ -19,28 +19,13 @@ count-requires c κs = c .before .pre .long
 loop-holds : tie.Need-loop-holds Inv-loop μ-loop
 loop-holds c = rw (c .count .ensures) (halved-start _ _)
 
-sub-middle : tie.Need-sub-middle Inv-loop μ-loop
-sub-middle c = search needs
-
-add-middle : tie.Need-add-middle Inv-loop μ-loop
-add-middle c = search needs
-
 nth-requires : tie.Need-nth-requires Inv-loop μ-loop
 nth-requires c κs = omega (arith, c .before .loop .inv .most)
-
-add-low : tie.Need-add-low Inv-loop μ-loop
-add-low c = search needs
-
-loop-less : tie.Need-loop-less Inv-loop μ-loop
-loop-less c = search needs
 
 loop-again : tie.Need-loop-again Inv-loop μ-loop
 loop-again c =
     halved-up (c .before .before .before .before .before .before .pre .ordered) _ _ _ _ (c .before .before .before .loop .inv) (search needs)
     (omega (arith, c .before .nth .ensures, c .if1 .taken))
-
-loop-less-2 : tie.Need-loop-less-2 Inv-loop μ-loop
-loop-less-2 c = search needs
 
 loop-again-2 : tie.Need-loop-again-2 Inv-loop μ-loop
 loop-again-2 c =
@@ -58,12 +43,12 @@ place-of-spec =
     μ-loop
     count-requires
     loop-holds
-    sub-middle
-    add-middle
+    (λ c. search needs)
+    (λ c. search needs)
     nth-requires
-    add-low
-    loop-less
+    (λ c. search needs)
+    (λ c. search needs)
     loop-again
-    loop-less-2
+    (λ c. search needs)
     loop-again-2
     returns)
