@@ -28,14 +28,8 @@ front c = length-take-le _ _ (fits c)
 loop-holds : tie.Need-loop-holds Inv-loop μ-loop
 loop-holds c = (search needs, completed-start _ (c .before .before .pre .1 .rises))
 
-mul-name-of : tie.Need-mul-name-of Inv-loop μ-loop
-mul-name-of c = search needs
-
 array-read-name-of : tie.Need-array-read-name-of Inv-loop μ-loop
 array-read-name-of c = omega (arith, c .before .before .before .before .pre)
-
-name-of-requires : tie.Need-name-of-requires Inv-loop μ-loop
-name-of-requires c κs = search needs
 
 array-share-prefix-from : tie.Need-array-share-prefix-from Inv-loop μ-loop
 array-share-prefix-from c = fits (c .before .before .before .before .before)
@@ -61,12 +55,6 @@ insert-requires : tie.Need-insert-requires Inv-loop μ-loop
 insert-requires c κs =
     let v = c .before .before .before .before .before .before .before .before .loop .inv in
     (omega (arith, c .before .before .before .before .before .before .before .before .before .before .before .pre, v .1), v .0)
-
-add-i : tie.Need-add-i Inv-loop μ-loop
-add-i c = search needs
-
-loop-less : tie.Need-loop-less Inv-loop μ-loop
-loop-less c = search needs
 
 loop-again : tie.Need-loop-again Inv-loop μ-loop
 loop-again c =
@@ -98,9 +86,9 @@ all-of-spec =
     Inv-loop
     μ-loop
     loop-holds
-    mul-name-of
+    (λ c. search needs)
     array-read-name-of
-    name-of-requires
+    (λ c κs. search needs)
     array-share-prefix-from
     slice-aggregate-goes-on
     goes-on-requires
@@ -108,7 +96,7 @@ all-of-spec =
     slice-aggregate-fresh-of
     fresh-of-requires
     insert-requires
-    add-i
-    loop-less
+    (λ c. search needs)
+    (λ c. search needs)
     loop-again
     returns)

@@ -16,17 +16,11 @@ abbrev μ-loop : tie.MeasureT-loop
 few : (c : tie.At-loop Inv-loop μ-loop) → c .loop .value ≤ 127
 few c = tried-few _ _ _ (c .before .before .pre .1) (c .loop .inv)
 
-mul-first : tie.Need-mul-first Inv-loop μ-loop
-mul-first c = search needs
-
 loop-holds : tie.Need-loop-holds Inv-loop μ-loop
 loop-holds c = tried-start _ _
 
 add-is-named : tie.Need-add-is-named Inv-loop μ-loop
 add-is-named c = omega (arith, few c, c .before .before .pre)
-
-is-named-requires : tie.Need-is-named-requires Inv-loop μ-loop
-is-named-requires c κs = search needs
 
 add-value : tie.Need-add-value Inv-loop μ-loop
 add-value c = omega (arith, few (c .before .before))
@@ -53,10 +47,10 @@ fresh-of-spec =
     (tie.spec
     Inv-loop
     μ-loop
-    mul-first
+    (λ c. search needs)
     loop-holds
     add-is-named
-    is-named-requires
+    (λ c κs. search needs)
     add-value
     loop-less
     loop-again

@@ -6,18 +6,6 @@ use Rattle.pairs.proofs.Complete.{next-name}
 use Rattle.pairs.proofs.goes_on.Statement.{statement}
 use Rattle.pairs.proofs.goes_on.Tie as tie
 
-add-if1 : tie.Need-add-if1
-add-if1 c = search needs
-
-add-result : tie.Need-add-result
-add-result c = search needs
-
-mul-result : tie.Need-mul-result
-mul-result c = search needs
-
-shared-slice-read-result : tie.Need-shared-slice-read-result
-shared-slice-read-result c = search needs
-
 returns : tie.Need-returns
 returns c = next-name _ _ _ (search needs)
 
@@ -26,4 +14,4 @@ returns-2 c = record { later = λ e. clash e refl }
 
 pub goes-on-spec : {M : Type 1} → statement M
 goes-on-spec =
-    tie.close (tie.spec add-if1 add-result mul-result shared-slice-read-result returns returns-2)
+    tie.close (tie.spec (λ c. search needs) (λ c. search needs) (λ c. search needs) (λ c. search needs) returns returns-2)

@@ -27,9 +27,6 @@ loop-holds c = ahead-start _ _ _
 nth-requires : tie.Need-nth-requires Inv-loop μ-loop
 nth-requires c κs = omega (arith, c .before .before .count .ensures)
 
-is-named-requires : tie.Need-is-named-requires Inv-loop μ-loop
-is-named-requires c κs = search needs
-
 returns : tie.Need-returns Inv-loop μ-loop
 returns c =
     let l = c .before .before .before .before .before .loop in
@@ -37,12 +34,6 @@ returns c =
     let e = c .before .before .before .nth .ensures in
     ahead-hit _ _ _ (l .i) (l .inv) (omega arith) e (c .before .before .if1 .taken)
     (sym (c .before .is-named .ensures) ∙ not-true _ (c .if2 .taken))
-
-add-i : tie.Need-add-i Inv-loop μ-loop
-add-i c = search needs
-
-loop-less : tie.Need-loop-less Inv-loop μ-loop
-loop-less c = search needs
 
 loop-again : tie.Need-loop-again Inv-loop μ-loop
 loop-again c =
@@ -66,9 +57,9 @@ holds-unnamed-spec =
     count-requires
     loop-holds
     nth-requires
-    is-named-requires
+    (λ c κs. search needs)
     returns
-    add-i
-    loop-less
+    (λ c. search needs)
+    (λ c. search needs)
     loop-again
     returns-2)

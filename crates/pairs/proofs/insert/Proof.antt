@@ -17,28 +17,10 @@ abbrev μ-loop : tie.MeasureT-loop
 loop-holds : tie.Need-loop-holds Inv-loop μ-loop
 loop-holds c = carried-start _ _ _ (c .pre .1)
 
-mul-other : tie.Need-mul-other Inv-loop μ-loop
-mul-other c = search needs
-
-element-copy-out-other : tie.Need-element-copy-out-other Inv-loop μ-loop
-element-copy-out-other c = search needs
-
 returns : tie.Need-returns Inv-loop μ-loop
 returns c =
     let l = c .before .before .before .loop in
     (omega arith, l .inv .size, carried-there _ _ _ _ _ (l .i) (search needs) (l .inv) (search needs) (c .if1 .taken))
-
-mul-pairs : tie.Need-mul-pairs Inv-loop μ-loop
-mul-pairs c = search needs
-
-element-write-pairs : tie.Need-element-write-pairs Inv-loop μ-loop
-element-write-pairs c = search needs
-
-add-i : tie.Need-add-i Inv-loop μ-loop
-add-i c = search needs
-
-loop-less : tie.Need-loop-less Inv-loop μ-loop
-loop-less c = search needs
 
 loop-again : tie.Need-loop-again Inv-loop μ-loop
 loop-again c =
@@ -47,15 +29,6 @@ loop-again c =
     (λ w. rw (w .1, w .2)
     (carried-past _ _ (l .pairs) _ (l .held) (l .i) (search needs) (l .inv) (search needs) (c .before .if1 .left) (w .0 .left)))
     (c .if2 .came)
-
-mul-pairs-2 : tie.Need-mul-pairs-2 Inv-loop μ-loop
-mul-pairs-2 c = search needs
-
-element-write-pairs-2 : tie.Need-element-write-pairs-2 Inv-loop μ-loop
-element-write-pairs-2 c = search needs
-
-add-result : tie.Need-add-result Inv-loop μ-loop
-add-result c = search needs
 
 returns-2 : tie.Need-returns-2 Inv-loop μ-loop
 returns-2 c =
@@ -69,15 +42,15 @@ insert-spec =
     Inv-loop
     μ-loop
     loop-holds
-    mul-other
-    element-copy-out-other
+    (λ c. search needs)
+    (λ c. search needs)
     returns
-    mul-pairs
-    element-write-pairs
-    add-i
-    loop-less
+    (λ c. search needs)
+    (λ c. search needs)
+    (λ c. search needs)
+    (λ c. search needs)
     loop-again
-    mul-pairs-2
-    element-write-pairs-2
-    add-result
+    (λ c. search needs)
+    (λ c. search needs)
+    (λ c. search needs)
     returns-2)

@@ -5,17 +5,8 @@ use borrow.Author.Needs.{needs}
 use Rattle.pairs.proofs.is_kept.Statement.{statement}
 use Rattle.pairs.proofs.is_kept.Tie as tie
 
-is-named-requires : tie.Need-is-named-requires
-is-named-requires c κs = search needs
-
-holds-requires : tie.Need-holds-requires
-holds-requires c κs = search needs
-
 returns : tie.Need-returns
 returns c = c .holds .ensures ∙ keep-named _ _ _ (sym (c .before .before .is-named .ensures) ∙ c .before .if1 .taken)
-
-holds-unnamed-requires : tie.Need-holds-unnamed-requires
-holds-unnamed-requires c κs = search needs
 
 returns-2 : tie.Need-returns-2
 returns-2 c =
@@ -26,4 +17,4 @@ returns-2 c =
 pub is-kept-spec : {M : Type 1} → statement M
 is-kept-spec =
     tie.close
-    (tie.spec is-named-requires holds-requires returns holds-unnamed-requires returns-2)
+    (tie.spec (λ c κs. search needs) (λ c κs. search needs) returns (λ c κs. search needs) returns-2)

@@ -22,12 +22,6 @@ atom c = gathered-fits _ _ _ (c .before .before .before .loop .inv .1) (search n
 loop-holds : tie.Need-loop-holds Inv-loop μ-loop
 loop-holds c = (search needs, gathered-start _ _ refl (c .before .pre))
 
-shared-slice-read-if1 : tie.Need-shared-slice-read-if1 Inv-loop μ-loop
-shared-slice-read-if1 c = search needs
-
-add-pair : tie.Need-add-pair Inv-loop μ-loop
-add-pair c = search needs
-
 pair-requires : tie.Need-pair-requires Inv-loop μ-loop
 pair-requires c κs = omega (arith, atom (c .before))
 
@@ -36,9 +30,6 @@ insert-requires c κs = (omega (arith, atom (c .before .before)), c .before .bef
 
 add-at : tie.Need-add-at Inv-loop μ-loop
 add-at c = omega (arith, atom (c .before .before .before))
-
-loop-less : tie.Need-loop-less Inv-loop μ-loop
-loop-less c = search needs
 
 loop-again : tie.Need-loop-again Inv-loop μ-loop
 loop-again c =
@@ -50,12 +41,6 @@ loop-again c =
       gathered-atom _ _ (l .at) (l .inv .1) (search needs) (c .before .before .before .if1 .taken)
           (omega (arith, byte (l .at + 3), byte (l .at + 3 + 1))) (pair .result) (pair .ensures) _ (put .ensures .0) (put .ensures .2),
     )
-
-add-at-2 : tie.Need-add-at-2 Inv-loop μ-loop
-add-at-2 c = search needs
-
-loop-less-2 : tie.Need-loop-less-2 Inv-loop μ-loop
-loop-less-2 c = search needs
 
 loop-again-2 : tie.Need-loop-again-2 Inv-loop μ-loop
 loop-again-2 c =
@@ -72,14 +57,14 @@ named-of-spec =
     Inv-loop
     μ-loop
     loop-holds
-    shared-slice-read-if1
-    add-pair
+    (λ c. search needs)
+    (λ c. search needs)
     pair-requires
     insert-requires
     add-at
-    loop-less
+    (λ c. search needs)
     loop-again
-    add-at-2
-    loop-less-2
+    (λ c. search needs)
+    (λ c. search needs)
     loop-again-2
     returns)

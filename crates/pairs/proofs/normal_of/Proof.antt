@@ -70,15 +70,6 @@ mul-kept c = omega (arith, all (c .before .before .before .before .before .befor
 array-write-kept : tie.Need-array-write-kept Inv-loop μ-loop
 array-write-kept c = omega (arith, all (c .before .before .before .before .before .before) .most)
 
-add-k : tie.Need-add-k Inv-loop μ-loop
-add-k c = search needs
-
-add-i : tie.Need-add-i Inv-loop μ-loop
-add-i c = search needs
-
-loop-less : tie.Need-loop-less Inv-loop μ-loop
-loop-less c = search needs
-
 loop-again : tie.Need-loop-again Inv-loop μ-loop
 loop-again c =
     let l = c .before .before .before .before .loop in
@@ -116,8 +107,8 @@ normal-of-spec =
     is-kept-requires
     mul-kept
     array-write-kept
-    add-k
-    add-i
-    loop-less
+    (λ c. search needs)
+    (λ c. search needs)
+    (λ c. search needs)
     loop-again
     returns)
