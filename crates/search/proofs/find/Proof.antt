@@ -39,9 +39,6 @@ ready c =
     let v = c .before .before .subsets .inv .1 in
     ⊎-elim (λ w. rw (w .3) (row-new v (w .2 .ensures))) (λ w. rw (w .1) (row-there v (w .0 .left))) (c .if2 .came)
 
-pow2-requires : tie.Need-pow2-requires Inv-loop μ-loop Inv-subsets μ-subsets
-pow2-requires c κs = search needs
-
 subsets-holds : tie.Need-subsets-holds Inv-loop μ-loop Inv-subsets μ-subsets
 subsets-holds c = (omega (arith, c .pow2 .ensures, pow-mono {i = length (c .before .before .before .args .pairs .now)} {j = 16} (omega (arith, c .before .before .before .pre .1))), searching-start (search needs))
 
@@ -51,55 +48,22 @@ fill-row-requires c κs =
     let p = c .before .before .before .before .before .before .before .pre in
     (p .0, p .1, omega (arith, v .0, c .before .before .if1 .left), row-due (v .1) (c .before .if2 .taken))
 
-is-quiet-requires : tie.Need-is-quiet-requires Inv-loop μ-loop Inv-subsets μ-subsets
-is-quiet-requires c κs = search needs
-
-add-m : tie.Need-add-m Inv-loop μ-loop Inv-subsets μ-subsets
-add-m c = search needs
-
-subsets-less : tie.Need-subsets-less Inv-loop μ-loop Inv-subsets μ-subsets
-subsets-less c = search needs
-
 subsets-again : tie.Need-subsets-again Inv-loop μ-loop Inv-subsets μ-subsets
 subsets-again c =
     let r = ready (c .before .before .before .before) in
     (c .before .before .before .before .before .before .subsets .inv .0, searching-quiet r (c .before .before .before .if3 .taken) (rw (c .if4 .taken) at (c .before .is-quiet .ensures)))
 
-entry-requires : tie.Need-entry-requires Inv-loop μ-loop Inv-subsets μ-subsets
-entry-requires c κs = search needs
-
 loop-holds : tie.Need-loop-holds Inv-loop μ-loop Inv-subsets μ-subsets
 loop-holds c = at-start
 
-shr-if6 : tie.Need-shr-if6 Inv-loop μ-loop Inv-subsets μ-subsets
-shr-if6 c = search needs
-
-pow2-requires-2 : tie.Need-pow2-requires-2 Inv-loop μ-loop Inv-subsets μ-subsets
-pow2-requires-2 c κs = search needs
-
 sub-entry : tie.Need-sub-entry Inv-loop μ-loop Inv-subsets μ-subsets
 sub-entry c = omega (arith, c .pow22 .ensures, bit-le (c .before .before .before .before .before .before .before .before .before .before .before .subsets .m) (c .before .before .before .before .loop .i) (eq-eqb _ _ (c .before .before .if6 .taken)))
-
-entry-requires-2 : tie.Need-entry-requires-2 Inv-loop μ-loop Inv-subsets μ-subsets
-entry-requires-2 c κs = search needs
-
-add-i : tie.Need-add-i Inv-loop μ-loop Inv-subsets μ-subsets
-add-i c = search needs
-
-loop-less : tie.Need-loop-less Inv-loop μ-loop Inv-subsets μ-subsets
-loop-less c = search needs
 
 loop-again : tie.Need-loop-again Inv-loop μ-loop Inv-subsets μ-subsets
 loop-again c = at-more (c .before .before .loop .inv) (λ e. ⊎-elim
     (λ w. clash (e .smaller) (rw (← w .2 .ensures) (sym (w .3 .ensures) ∙ w .4 .left)))
     (λ w. w .left (eqb-true _ _ (e .taken)))
     (c .if6 .came))
-
-add-m-2 : tie.Need-add-m-2 Inv-loop μ-loop Inv-subsets μ-subsets
-add-m-2 c = search needs
-
-subsets-less-2 : tie.Need-subsets-less-2 Inv-loop μ-loop Inv-subsets μ-subsets
-subsets-less-2 c = search needs
 
 subsets-again-2 : tie.Need-subsets-again-2 Inv-loop μ-loop Inv-subsets μ-subsets
 subsets-again-2 c =
@@ -145,24 +109,24 @@ find-spec =
     μ-loop
     Inv-subsets
     μ-subsets
-    pow2-requires
+    (λ c κs. search needs)
     subsets-holds
     fill-row-requires
-    is-quiet-requires
-    add-m
-    subsets-less
+    (λ c κs. search needs)
+    (λ c. search needs)
+    (λ c. search needs)
     subsets-again
-    entry-requires
+    (λ c κs. search needs)
     loop-holds
-    shr-if6
-    pow2-requires-2
+    (λ c. search needs)
+    (λ c κs. search needs)
     sub-entry
-    entry-requires-2
-    add-i
-    loop-less
+    (λ c κs. search needs)
+    (λ c. search needs)
+    (λ c. search needs)
     loop-again
-    add-m-2
-    subsets-less-2
+    (λ c. search needs)
+    (λ c. search needs)
     subsets-again-2
     returns
     returns-2)

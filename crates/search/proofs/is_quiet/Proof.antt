@@ -14,17 +14,8 @@ abbrev μ-loop : tie.MeasureT-loop
 loop-holds : tie.Need-loop-holds Inv-loop μ-loop
 loop-holds c = quiet-start
 
-hits-requires : tie.Need-hits-requires Inv-loop μ-loop
-hits-requires c κs = search needs
-
 returns : tie.Need-returns Inv-loop μ-loop
 returns c = not-quiet
-
-add-i : tie.Need-add-i Inv-loop μ-loop
-add-i c = search needs
-
-loop-less : tie.Need-loop-less Inv-loop μ-loop
-loop-less c = search needs
 
 loop-again : tie.Need-loop-again Inv-loop μ-loop
 loop-again c = quiet-more (c .before .before .before .loop .inv) (c .before .hits .ensures) (c .if1 .left)
@@ -39,9 +30,9 @@ is-quiet-spec =
     Inv-loop
     μ-loop
     loop-holds
-    hits-requires
+    (λ c κs. search needs)
     returns
-    add-i
-    loop-less
+    (λ c. search needs)
+    (λ c. search needs)
     loop-again
     returns-2)

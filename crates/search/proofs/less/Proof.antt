@@ -6,26 +6,11 @@ use Rattle.search.proofs.Word.{less-low, less-high, less-none}
 use Rattle.search.proofs.less.Statement.{statement}
 use Rattle.search.proofs.less.Tie as tie
 
-pow2-requires : tie.Need-pow2-requires
-pow2-requires c κs = search needs
-
-mul-result : tie.Need-mul-result
-mul-result c = search needs
-
-element-copy-out-result : tie.Need-element-copy-out-result
-element-copy-out-result c = search needs
-
 shl-result : tie.Need-shl-result
 shl-result c = omega (arith, pow-mono {i = c .before .before .before .args .i} {j = 5} (omega arith))
 
 returns : tie.Need-returns
 returns c = less-low _ _ _ (c .before .if1 .taken) (c .before .before .pow2 .ensures)
-
-mul-result-2 : tie.Need-mul-result-2
-mul-result-2 c = search needs
-
-element-copy-out-result-2 : tie.Need-element-copy-out-result-2
-element-copy-out-result-2 c = search needs
 
 returns-2 : tie.Need-returns-2
 returns-2 c = less-high _ _ _ (c .before .before .if1 .left) (c .before .before .before .pow2 .ensures) (c .before .if2 .taken)
@@ -37,12 +22,12 @@ pub less-spec : {M : Type 1} → statement M
 less-spec =
     tie.close
     (tie.spec
-    pow2-requires
-    mul-result
-    element-copy-out-result
+    (λ c κs. search needs)
+    (λ c. search needs)
+    (λ c. search needs)
     shl-result
     returns
-    mul-result-2
-    element-copy-out-result-2
+    (λ c. search needs)
+    (λ c. search needs)
     returns-2
     returns-3)

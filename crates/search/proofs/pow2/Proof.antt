@@ -8,11 +8,8 @@ use borrow.Author.Needs.{needs}
 use Rattle.search.proofs.pow2.Statement.{statement}
 use Rattle.search.proofs.pow2.Tie as tie
 
-shl-result : tie.Need-shl-result
-shl-result c = search needs
-
 returns : tie.Need-returns
 returns c = shl-exact {a = 1} 1 (c .args .k) 64 (omega arith) (omega arith) ∙ one-mul (2 ^ c .args .k)
 
 pub pow2-spec : {M : Type 1} → statement M
-pow2-spec = tie.close (tie.spec shl-result returns)
+pow2-spec = tie.close (tie.spec (λ c. search needs) returns)

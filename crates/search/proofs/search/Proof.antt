@@ -13,15 +13,6 @@ use Rattle.search.proofs.Answer.{found-hit, none-found, first-found}
 use Rattle.search.proofs.search.Statement.{statement}
 use Rattle.search.proofs.search.Tie as tie
 
-find-requires : tie.Need-find-requires
-find-requires c κs = search needs
-
-enum-told : tie.Need-enum-told
-enum-told c = search needs
-
-enum-known-m : tie.Need-enum-known-m
-enum-known-m c = search needs
-
 -- what was found is an exposure of the policy
 exposed : (c : tie.After-m) →
     let s = c .before .before .before .before .before .before in
@@ -51,9 +42,6 @@ returns : tie.Need-returns
 returns c =
     none-found (rw (c .enum-told .given .1) at (c .before .before .find .ensures))
 
-same-length : tie.Need-same-length
-same-length c = search needs
-
 returns-2 : tie.Need-returns-2
 returns-2 c =
     let m = c .before .before .before .before .before .before .m .given .1 in
@@ -64,12 +52,12 @@ pub search-spec : {M : Type 1} → statement M
 search-spec =
     tie.close
     (tie.spec
-    find-requires
-    enum-told
-    enum-known-m
+    (λ c κs. search needs)
+    (λ c. search needs)
+    (λ c. search needs)
     pow2-requires
     sub-write-subsets
     write-subsets-requires
     returns
-    same-length
+    (λ c. search needs)
     returns-2)

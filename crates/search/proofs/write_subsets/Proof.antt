@@ -8,18 +8,6 @@ use Rattle.search.proofs.Files.{take-front, two-length, two-written}
 use Rattle.search.proofs.write_subsets.Statement.{statement}
 use Rattle.search.proofs.write_subsets.Tie as tie
 
-slice-aggregate-choose : tie.Need-slice-aggregate-choose
-slice-aggregate-choose c = search needs
-
-choose-requires : tie.Need-choose-requires
-choose-requires c κs = search needs
-
-slice-aggregate-choose-2 : tie.Need-slice-aggregate-choose-2
-slice-aggregate-choose-2 c = search needs
-
-choose-requires-2 : tie.Need-choose-requires-2
-choose-requires-2 c κs = search needs
-
 array-share-prefix-first : tie.Need-array-share-prefix-first
 array-share-prefix-first c =
     let a = c .before .before .before .before .before .before .before .before .args in
@@ -44,9 +32,6 @@ write-two-requires c κs =
     let second = take-front _ (c .before .before .before .before .choose2 .ensures) in
     rw (first, second) (omega (arith, subset-most s (a .smaller), subset-most s (a .larger), two-length s (a .smaller) (a .larger)))
 
-same-length : tie.Need-same-length
-same-length c = search needs
-
 returns : tie.Need-returns
 returns c =
     let a = c .before .before .before .before .before .before .before .before .before .before .before .before .before .before .args in
@@ -58,14 +43,14 @@ pub write-subsets-spec : {M : Type 1} → statement M
 write-subsets-spec =
     tie.close
     (tie.spec
-    slice-aggregate-choose
-    choose-requires
-    slice-aggregate-choose-2
-    choose-requires-2
+    (λ c. search needs)
+    (λ c κs. search needs)
+    (λ c. search needs)
+    (λ c κs. search needs)
     array-share-prefix-first
     slice-aggregate-write-two
     array-share-prefix-second
     slice-aggregate-write-two-2
     write-two-requires
-    same-length
+    (λ c. search needs)
     returns)
