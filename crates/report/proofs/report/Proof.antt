@@ -24,47 +24,23 @@ fits c =
     let l : length (c .before .before .before .list-pairs .last .1 .0) ≡ 254 = search needs in
     omega (arith, listed-fits (rw (c .count .given .1) at (c .before .before .before .list-pairs .ensures)))
 
-slice-aggregate-list-pairs : tie.Need-slice-aggregate-list-pairs
-slice-aggregate-list-pairs c = search needs
-
-list-pairs-requires : tie.Need-list-pairs-requires
-list-pairs-requires c κs = search needs
-
-enum-known-number : tie.Need-enum-known-number
-enum-known-number c = search needs
-
-refusal-line-requires : tie.Need-refusal-line-requires
-refusal-line-requires c κs = search needs
-
-enum-known-count : tie.Need-enum-known-count
-enum-known-count c = search needs
-
 array-share-prefix-pairs : tie.Need-array-share-prefix-pairs
 array-share-prefix-pairs c = fits (c .before)
 
 slice-aggregate-report-on : tie.Need-slice-aggregate-report-on
 slice-aggregate-report-on c = sym (length-take-le _ _ (fits (c .before .before)))
 
-report-on-requires : tie.Need-report-on-requires
-report-on-requires c κs = search needs
-
-returns : tie.Need-returns
-returns c = search needs
-
-returns-2 : tie.Need-returns-2
-returns-2 c = search needs
-
 pub report-spec : {M : Type 1} → statement M
 report-spec =
     tie.close
     (tie.spec
-    slice-aggregate-list-pairs
-    list-pairs-requires
-    enum-known-number
-    refusal-line-requires
-    enum-known-count
+    (λ c. search needs)
+    (λ c κs. search needs)
+    (λ c. search needs)
+    (λ c κs. search needs)
+    (λ c. search needs)
     array-share-prefix-pairs
     slice-aggregate-report-on
-    report-on-requires
-    returns
-    returns-2)
+    (λ c κs. search needs)
+    (λ c. search needs)
+    (λ c. search needs))
