@@ -15,6 +15,12 @@ use Rattle.files.specs.Refusal.{Read, accepted, refused, dec16, unframed
 use Rattle.files.specs.Cases.{frameOf}
 use Rattle.files.proofs.BigEndian.{big-dec16}
 
+-- none of the three refusals
+pub record WholeFile (s : List ℕ) : Type 0 where
+  pub long : 3 ≤ length s
+  pub version : getD s 0 0 ≡ 1
+  pub stated : dec16 s 1 ≡ length s - 3
+
 module _ {A : Type 0} (first : ℕ) (s : List ℕ) (body : Read A) where
   pub unframed-short : length s < 3 → unframed first s body ≡ refused first (length s)
   unfolding unframed
@@ -25,20 +31,13 @@ module _ {A : Type 0} (first : ℕ) (s : List ℕ) (body : Read A) where
     unfolding unframed
     unframed-version v = rw (le-ltb _ _ h, ne-eqb _ _ v)
 
-    module _ (v : getD s 0 0 ≡ 1) where
-      pub unframed-length : (dec16 s 1 ≡ length s - 3 → ⊥) → unframed first s body ≡ refused (first + 2) 1
-      unfolding unframed
-      unframed-length d = rw (le-ltb _ _ h, eq-eqb _ _ v, ne-eqb _ _ d)
+    pub unframed-length : getD s 0 0 ≡ 1 → (dec16 s 1 ≡ length s - 3 → ⊥) → unframed first s body ≡ refused (first + 2) 1
+    unfolding unframed
+    unframed-length v d = rw (le-ltb _ _ h, eq-eqb _ _ v, ne-eqb _ _ d)
 
-      pub unframed-whole : dec16 s 1 ≡ length s - 3 → unframed first s body ≡ body
-      unfolding unframed
-      unframed-whole d = rw (le-ltb _ _ h, eq-eqb _ _ v, eq-eqb _ _ d)
-
--- none of the three refusals
-pub record WholeFile (s : List ℕ) : Type 0 where
-  pub long : 3 ≤ length s
-  pub version : getD s 0 0 ≡ 1
-  pub stated : dec16 s 1 ≡ length s - 3
+  pub unframed-whole : WholeFile s → unframed first s body ≡ body
+  unfolding unframed
+  unframed-whole w = rw (le-ltb _ _ (w .long), eq-eqb _ _ (w .version), eq-eqb _ _ (w .stated))
 
 -- a lent slice of bytes, as a function knows it
 pub lent-bytes : {s : List ℕ} → ((i : ℕ) → Fits w8 (getD s i 0)) → Bytes s
@@ -117,12 +116,12 @@ module _ (first : ℕ) (s : List ℕ) where
           let b : q ≡ p = cc in
           rw (← a, ← b) r
       at (whole w) =
-          let z : _≡_ {A = ℕ} 0 1 = cc (unframed-whole first s (accepted (tt {0})) (w .long) (w .version) (w .stated)) in
+          let z : _≡_ {A = ℕ} 0 1 = cc (unframed-whole first s (accepted (tt {0})) w) in
           absurd (omega arith)
 
   module _ {A : Type 0} (body : Read A) where
     pub whole-frame : frameOf (unframed first s (accepted tt)) ≡ Frame.Whole → unframed first s body ≡ body
-    whole-frame e = let w = whole-file e in unframed-whole first s body (w .long) (w .version) (w .stated)
+    whole-frame e = unframed-whole first s body (whole-file e)
 
     pub refused-frame : {n p : ℕ} → frameOf (unframed first s (accepted tt)) ≡ Frame.Refused n p → unframed first s body ≡ refused n p
     refused-frame e = refusal e .given body

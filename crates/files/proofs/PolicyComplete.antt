@@ -51,8 +51,7 @@ unfolding readPolicy policyFile framed
 read-file p f =
     let s = policyFile p in
     let h : At s 3 (enc p) = record { rest = []; split = sym (append-nil (enc p)) } in
-    let w = framed-whole (enc p) in
-    unframed-whole 1 s _ (w .long) (w .version) (w .stated)
+    unframed-whole 1 s _ (framed-whole (enc p))
     ∙ ap (finish (length s))
     (complete 255 s p 32 3 0 (length s) (nodes p) h (f .shallow) (omega (arith, f .few)) (omega arith) (omega arith))
     ∙ simp (le-ltb (length s) (length s) (omega arith))

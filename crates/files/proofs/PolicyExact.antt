@@ -49,7 +49,7 @@ module _ (s : List ℕ) (bs : Bytes s) where
     where
       go : (x : Read Policy) → (WholeFile s → Gives s x) → Framing 1 s → Gives s (unframed 1 s x)
       go x f (faulty n p r) = rw (r .given x) (omega (arith, r .low), omega (arith, r .high), omega (arith, r .place))
-      go x f (whole w) = rw (unframed-whole 1 s x (w .long) (w .version) (w .stated)) (f w)
+      go x f (whole w) = rw (unframed-whole 1 s x w) (f w)
 
 -- whatever its bytes, the file of a policy within the limits is read as it
 pub policy-reads : {s : List ℕ} {p : Policy} → IsPolicy s p → readPolicy s ≡ accepted p

@@ -15,22 +15,19 @@ use Rattle.files.proofs.InOrder.{Ordering, ascends, falls, ordering}
 use Rattle.files.proofs.RequestBody.{pairs-length}
 
 module _ (first : ℕ) {s : List ℕ} (w : WholeFile s) where
-  behind : (body : Read Request) → unframed first s body ≡ body
-  behind body = unframed-whole first s body (w .long) (w .version) (w .stated)
-
   pub request-uneven : ((length s - 3) % 4 ≡ 0 → ⊥) → readRequestFrom first s ≡ refused (first + 3) 3
   unfolding readRequestFrom
-  request-uneven m = behind _ ∙ (rw (lt-ltb 0 ((length s - 3) % 4) (omega arith)))
+  request-uneven m = unframed-whole first s _ w ∙ (rw (lt-ltb 0 ((length s - 3) % 4) (omega arith)))
 
   module _ (m : (length s - 3) % 4 ≡ 0) where
     pub request-many : 256 < (length s - 3) / 4 → readRequestFrom first s ≡ refused (first + 4) 1027
     unfolding readRequestFrom
-    request-many k = behind _ ∙ (rw (le-ltb 0 ((length s - 3) % 4) (omega arith), lt-ltb _ _ k))
+    request-many k = unframed-whole first s _ w ∙ (rw (le-ltb 0 ((length s - 3) % 4) (omega arith), lt-ltb _ _ k))
 
     pub request-pairs : (length s - 3) / 4 ≤ 256
         → readRequestFrom first s ≡ inOrder (first + 5) (pairsAt ((length s - 3) / 4) s 3) 3 (pairsAt ((length s - 3) / 4) s 3)
     unfolding readRequestFrom
-    request-pairs k = behind _ ∙ (rw (le-ltb 0 ((length s - 3) % 4) (omega arith), le-ltb _ _ k))
+    request-pairs k = unframed-whole first s _ w ∙ (rw (le-ltb 0 ((length s - 3) % 4) (omega arith), le-ltb _ _ k))
 
 -- every file is refused, or is whole with few pairs that ascend
 pub data Outcome (first : ℕ) (s : List ℕ) : Type 0 where

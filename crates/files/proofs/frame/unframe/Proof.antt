@@ -17,7 +17,8 @@ returns-3 c =
 returns-4 : tie.Need-returns-4
 returns-4 c =
     let long = c .before .before .before .before .if1 .left in
-    ap frameOf (sym (unframed-whole _ _ _ long (c .before .before .if2 .left) (sym (c .before .number .ensures .0) ∙ c .if3 .left)))
+    let stated = sym (c .before .number .ensures .0) ∙ c .if3 .left in
+    ap frameOf (sym (unframed-whole _ _ _ (record { long = long; version = c .before .before .if2 .left; stated = stated })))
 
 pub unframe-spec : {M : Type 1} → statement M
 unframe-spec =
