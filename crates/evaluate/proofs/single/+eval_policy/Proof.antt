@@ -98,9 +98,6 @@ module _ (t : ℕ) where
       let g = given (c .before .before .before .before) in
       for-part g (parts aTargeted (c .before .if3 .taken) (g .1 .0) .1 _ (c .eval-target .ensures .past))
 
-  targeted-requires : lts.Need-targeted-requires (cs t) (at t) eval-policy.Post
-  targeted-requires c κs = tt
-
   returns-3 : lts.Need-returns-3 (cs t) (at t) eval-policy.Post
   returns-3 c = is-targeted
       (c .before .before .before .before .if3 .taken)
@@ -117,14 +114,8 @@ module _ (t : ℕ) where
   eval-policy-requires-2 : lts.Need-eval-policy-requires-2 (cs t) (at t) eval-policy.Post
   eval-policy-requires-2 c κs = let g = given (c .before .before .before) in for-part g (has-first (g .1 .0) (inner c))
 
-  not-requires : lts.Need-not-requires (cs t) (at t) eval-policy.Post
-  not-requires c κs = tt
-
   returns-4 : lts.Need-returns-4 (cs t) (at t) eval-policy.Post
   returns-4 c = is-not (c .before .if4 .taken) (c .before .before .before .eval-policy2 .ensures) (c .not .ensures)
-
-  deny-by-default-requires : lts.Need-deny-by-default-requires (cs t) (at t) eval-policy.Post
-  deny-by-default-requires c κs = tt
 
   returns-5 : lts.Need-returns-5 (cs t) (at t) eval-policy.Post
   returns-5 c = is-default (c .before .if5 .taken) (c .before .before .before .before .eval-policy2 .ensures) (c .deny-by-default .ensures)
@@ -136,9 +127,6 @@ module _ (t : ℕ) where
   eval-policy-requires-3 c κs =
       let g = given (c .before .before .before .before .before .before .before) in
       for-part g (parts (anAnd policy) (and-tag c) (g .1 .0) .1 _ (c .before .before .before .eval-policy2 .ensures .past))
-
-  and-requires : lts.Need-and-requires (cs t) (at t) eval-policy.Post
-  and-requires c κs = tt
 
   returns-6 : lts.Need-returns-6 (cs t) (at t) eval-policy.Post
   returns-6 c = is-and
@@ -159,16 +147,16 @@ pub +eval-policy-spec : {M : Type 1} → statement M
     (eval-target-requires t)
     (sub-eval-policy t)
     (eval-policy-requires t)
-    (targeted-requires t)
+    (λ c κs. tt)
     (returns-3 t)
     (add-eval-policy t)
     (sub-eval-policy-2 t)
     (eval-policy-requires-2 t)
-    (not-requires t)
+    (λ c κs. tt)
     (returns-4 t)
-    (deny-by-default-requires t)
+    (λ c κs. tt)
     (returns-5 t)
     (sub-eval-policy-3 t)
     (eval-policy-requires-3 t)
-    (and-requires t)
+    (λ c κs. tt)
     (returns-6 t)

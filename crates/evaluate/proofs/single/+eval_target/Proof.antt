@@ -94,14 +94,8 @@ module _ (t : ℕ) where
   eval-target-requires : lts.Need-eval-target-requires (cs t) (at t) eval-target.Post
   eval-target-requires c κs = let g = given (c .before) in for-part g (has-first (g .1 .0) (inner c))
 
-  not-requires : lts.Need-not-requires (cs t) (at t) eval-target.Post
-  not-requires c κs = tt
-
   returns-2 : lts.Need-returns-2 (cs t) (at t) eval-target.Post
   returns-2 c = is-not (c .before .if2 .taken) (c .before .before .eval-target .ensures) (c .not .ensures)
-
-  optional-requires : lts.Need-optional-requires (cs t) (at t) eval-target.Post
-  optional-requires c κs = tt
 
   returns-3 : lts.Need-returns-3 (cs t) (at t) eval-target.Post
   returns-3 c = is-default (c .before .if3 .taken) (c .before .before .before .eval-target .ensures) (c .optional .ensures)
@@ -113,9 +107,6 @@ module _ (t : ℕ) where
   eval-target-requires-2 c κs =
       let g = given (c .before .before .before .before) in
       for-part g (parts (anAnd target) (and-tag c) (g .1 .0) .1 _ (c .before .before .eval-target .ensures .past))
-
-  and-requires : lts.Need-and-requires (cs t) (at t) eval-target.Post
-  and-requires c κs = tt
 
   returns-4 : lts.Need-returns-4 (cs t) (at t) eval-target.Post
   returns-4 c = is-and
@@ -135,11 +126,11 @@ pub +eval-target-spec : {M : Type 1} → statement M
     (add-eval-target t)
     (sub-eval-target t)
     (eval-target-requires t)
-    (not-requires t)
+    (λ c κs. tt)
     (returns-2 t)
-    (optional-requires t)
+    (λ c κs. tt)
     (returns-3 t)
     (sub-eval-target-2 t)
     (eval-target-requires-2 t)
-    (and-requires t)
+    (λ c κs. tt)
     (returns-4 t)
