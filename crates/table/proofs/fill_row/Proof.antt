@@ -4,18 +4,6 @@ use Rattle.table.proofs.Filled.{filled-more}
 use Rattle.table.proofs.fill_row.Statement.{statement}
 use Rattle.table.proofs.fill_row.Tie as tie
 
-pair-rows-requires : tie.Need-pair-rows-requires
-pair-rows-requires c κs = search needs
-
-judge-requires : tie.Need-judge-requires
-judge-requires c κs = search needs
-
-mul-put-row : tie.Need-mul-put-row
-mul-put-row c = search needs
-
-put-row-requires : tie.Need-put-row-requires
-put-row-requires c κs = search needs
-
 returns : tie.Need-returns
 returns c =
     let s = c .before .before .before .before .before .before .before in
@@ -24,4 +12,4 @@ returns c =
 
 pub fill-row-spec : {M : Type 1} → statement M
 fill-row-spec =
-    tie.close (tie.spec pair-rows-requires judge-requires mul-put-row put-row-requires returns)
+    tie.close (tie.spec (λ c κs. search needs) (λ c κs. search needs) (λ c. search needs) (λ c κs. search needs) returns)

@@ -5,11 +5,8 @@ use Rattle.table.proofs.Lanes.{decided-law}
 use Rattle.table.proofs.judge.decided.Statement.{statement}
 use Rattle.table.proofs.judge.decided.Tie as tie
 
-same-requires : tie.Need-same-requires
-same-requires c κs = search needs
-
 returns : tie.Need-returns
 returns c = (decided-law _ (c .same .ensures), refl)
 
 pub decided-spec : {M : Type 1} → statement M
-decided-spec = tie.close (tie.spec same-requires returns)
+decided-spec = tie.close (tie.spec (λ c κs. search needs) returns)

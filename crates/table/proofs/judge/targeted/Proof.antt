@@ -5,21 +5,6 @@ use Rattle.table.proofs.Lanes.{targeted-law}
 use Rattle.table.proofs.judge.targeted.Statement.{statement}
 use Rattle.table.proofs.judge.targeted.Tie as tie
 
-not-requires : tie.Need-not-requires
-not-requires c κs = search needs
-
-not-requires-2 : tie.Need-not-requires-2
-not-requires-2 c κs = search needs
-
-and-requires : tie.Need-and-requires
-and-requires c κs = search needs
-
-and-requires-2 : tie.Need-and-requires-2
-and-requires-2 c κs = search needs
-
-or-requires : tie.Need-or-requires
-or-requires c κs = search needs
-
 returns : tie.Need-returns
 returns c =
     let p = c .before .before .before .before .before .before .before .before .before .before .pre in
@@ -30,4 +15,4 @@ returns c =
 pub targeted-spec : {M : Type 1} → statement M
 targeted-spec =
     tie.close
-    (tie.spec not-requires not-requires-2 and-requires and-requires-2 or-requires returns)
+    (tie.spec (λ c κs. search needs) (λ c κs. search needs) (λ c κs. search needs) (λ c κs. search needs) (λ c κs. search needs) returns)
