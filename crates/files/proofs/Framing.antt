@@ -1,6 +1,7 @@
 -- The refusals that both kinds of file share: one law for each case, and what the code's answer tells of the bytes.
 use Prim.Native.Nat.{ℕ, _+_, _-_, _<_, _≤_}
 use mathlib.Core.Path.{_≡_, refl, ap, sym, _∙_}
+use mathlib.Core.Bool.{true≢false}
 use mathlib.Core.List.{List, _∷_}
 use native.Mathlib.Decide.{decLt, ℕ-discrete}
 use native.Mathlib.Omega.{arith}
@@ -14,6 +15,11 @@ use Rattle.files.specs.Encoding.{framed, Bytes}
 use Rattle.files.specs.Refusal.{Read, accepted, refused, dec16, unframed}
 use Rattle.files.specs.Cases.{frameOf}
 use Rattle.files.proofs.BigEndian.{big-dec16}
+
+-- what reading a file may give: what it is the file of, or a refusal within bounds
+abbrev pub Gives : {A : Type 0} → (A → Type 0) → (ℕ → ℕ → Type 0) → Read A → Type 0
+Gives IsFile Bounds (accepted a) = IsFile a
+Gives IsFile Bounds (refused n p) = Bounds n p
 
 -- none of the three refusals
 pub record WholeFile (s : List ℕ) : Type 0 where
@@ -103,7 +109,7 @@ module _ (first : ℕ) (s : List ℕ) where
   whole-file e = at framing
     where
       at : Framing first s → WholeFile s
-      at (faulty n p r) = let z : _≡_ {A = ℕ} 0 1 = cc (r .given (accepted (tt {0}))) in absurd (omega arith)
+      at (faulty n p r) = absurd (true≢false (cc (r .given (accepted (tt {0})))))
       at (whole w) = w
 
   pub refusal : {n p : ℕ} → frameOf (unframed first s (accepted tt)) ≡ Frame.Refused n p → Refusal first s n p
@@ -116,8 +122,7 @@ module _ (first : ℕ) (s : List ℕ) where
           let b : q ≡ p = cc in
           rw (← a, ← b) r
       at (whole w) =
-          let z : _≡_ {A = ℕ} 0 1 = cc (unframed-whole first s (accepted (tt {0})) w) in
-          absurd (omega arith)
+          absurd (true≢false (cc (unframed-whole first s (accepted (tt {0})) w)))
 
   module _ {A : Type 0} (body : Read A) where
     pub whole-frame : frameOf (unframed first s (accepted tt)) ≡ Frame.Whole → unframed first s body ≡ body

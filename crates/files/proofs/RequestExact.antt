@@ -1,9 +1,10 @@
 -- A file is read as a request exactly if it is that request's file; what a read request gives the passes behind it.
-use Prim.Native.Nat.{ℕ, _+_, _-_, _/_, _≤_, _<_}
+use Prim.Native.Nat.{ℕ, _+_, _*_, _-_, _/_, _%_, _≤_, _<_}
 use mathlib.Core.Path.{_≡_, refl, sym, ap, subst, _∙_}
 use mathlib.Core.Logic.{_↔_}
 use mathlib.Core.Bool.{true≢false}
 use mathlib.Core.List.{List, map}
+use native.Mathlib.Decide.{decLt, ℕ-discrete}
 use native.Mathlib.Omega.{arith}
 use lib.ListN.{length}
 use Rattle.ptacl.specs.Request.{Request}
@@ -15,11 +16,11 @@ use Rattle.files.specs.ReadRequest.{pairsAt, inOrder, readRequestFrom}
 use Rattle.files.specs.Places.{numbersOf}
 use Rattle.files.specs.Cases.{requestRead}
 use Rattle.files.proofs.Numbers.{map-unpacked-packed}
-use Rattle.files.proofs.Framing.{framed-whole, framed-body}
+use Rattle.files.proofs.Framing.{Gives, WholeFile, framed-whole, framed-body, Framing, faulty, whole, framing}
 use Rattle.files.proofs.Memory.{request-length}
 use Rattle.files.proofs.InOrder.{Ordering, ascends, falls, ordering}
 use Rattle.files.proofs.RequestBody.{pairs-range, pairs-length, pairs-bytes, bytes-pairs}
-use Rattle.files.proofs.RequestCases.{request-pairs, Outcome, bad, good, outcome}
+use Rattle.files.proofs.RequestCases.{request-unframed, request-uneven, request-many, request-pairs}
 
 file-pairs : (q : Request) → pairsAt (length q) (requestFile q) 3 ≡ q
 unfolding requestFile framed
@@ -30,9 +31,6 @@ request-file-injective q r e =
     let f = ap length e in
     let l : length q ≡ length r = omega (arith, request-length q, request-length r) in
     sym (file-pairs q) ∙ (rw (l, e) (file-pairs r))
-
-clash {ℓ} : {A : Type ℓ} {r : Read Request} {n p : ℕ} {q : Request} → r ≡ refused n p → r ≡ accepted q → A
-clash e f = let z : _≡_ {A = ℕ} 0 1 = cc in absurd (omega arith)
 
 pub reads : (first : ℕ) (q : Request) → FitsRequest q → readRequestFrom first (requestFile q) ≡ accepted q
 unfolding requestFile
@@ -51,36 +49,53 @@ reads first q f =
 pub request-reads : (first : ℕ) {s : List ℕ} {q : Request} → IsRequest s q → readRequestFrom first s ≡ accepted q
 request-reads first {q = q} i = ap (readRequestFrom first) (i .file) ∙ reads first q (i .fits)
 
+module _ (first : ℕ) (s : List ℕ) where
+  -- what reading may give
+  abbrev GivesRequest : Read Request → Type 0
+  GivesRequest = Gives (λ q. Bytes s → IsRequest s q) (λ n p. (first ≤ n) × (n ≤ first + 5) × (p ≤ 1027))
+
+  ordered : WholeFile s → (n : ℕ) → n ≤ 256 → 3 + 4 * n ≡ length s
+      → Ordering (first + 5) (pairsAt n s 3) 3 (pairsAt n s 3) → GivesRequest (inOrder (first + 5) (pairsAt n s 3) 3 (pairsAt n s 3))
+  unfolding requestFile
+  ordered w n few l (falls k m h a i) = rw i (omega arith, omega arith, omega (arith, pairs-length n s 3))
+  ordered w n few l (ascends a i) = rw i (λ b. record {
+    file = sym (ap framed (pairs-bytes b n 3 l) ∙ framed-body w b);
+    fits = record { few = omega (arith, pairs-length n s 3); ordered = a; range = pairs-range b n 3 };
+  })
+
+  gives : GivesRequest (readRequestFrom first s)
+  gives = go (framing first s)
+    where
+      go : Framing first s → GivesRequest (readRequestFrom first s)
+      go (faulty n p r) = rw (request-unframed first r) (r .low, omega (arith, r .high), omega (arith, r .place))
+      go (whole w) = elim (ℕ-discrete ((length s - 3) % 4) 0) [
+        | no u ↦ rw (request-uneven first w u) (omega arith, omega arith, omega arith)
+        | yes m ↦ elim (decLt 256 ((length s - 3) / 4)) [
+          | yes k ↦ rw (request-many first w m k) (omega arith, omega arith, omega arith)
+          | no k ↦
+              let h : (length s - 3) / 4 ≤ 256 = omega arith in
+              let l = w .long in
+              rw (request-pairs first w m h) (ordered w ((length s - 3) / 4) h (omega arith) (ordering _ _ 3 _))
+        ]
+      ]
+
 pub request-exact : (first : ℕ) (s : List ℕ) → Bytes s → (q : Request) → (readRequestFrom first s ≡ accepted q) ↔ IsRequest s q
-unfolding requestFile
-request-exact first s b q = (λ e. at (outcome first s) e, request-reads first)
-  where
-    at : Outcome first s → readRequestFrom first s ≡ accepted q → IsRequest s q
-    at (bad n p l h m r) e = clash r e
-    at (good w n few l a r) e =
-        let d : pairsAt n s 3 ≡ q = cc in
-        let k = pairs-length n s 3 in
-        subst (IsRequest s) d (record {
-          file = sym (ap framed (pairs-bytes b n 3 l) ∙ framed-body w b);
-          fits = record { few = omega arith; ordered = a; range = pairs-range b n 3 };
-        })
+request-exact first s b q = ((λ e. subst (GivesRequest first s) e (gives first s) b), request-reads first)
 
 pub request-refused-range : (first : ℕ) (s : List ℕ) {n p : ℕ}
     → 0 < first → first < 251 → readRequestFrom first s ≡ refused n p → (0 < n) × (n < 256) × (p ≤ 65538)
-request-refused-range first s {n} {p} f g e = at (outcome first s)
-  where
-    at : Outcome first s → (0 < n) × (n < 256) × (p ≤ 65538)
-    at (bad m q l h k r) = let a : m ≡ n = cc in let b : q ≡ p = cc in (omega arith, omega arith, omega arith)
-    at (good w m few l a r) = clash e r
+request-refused-range first s f g e =
+    let r = subst (GivesRequest first s) e (gives first s) in
+    (omega (arith, r .0), omega (arith, r .1), omega (arith, r .2))
 
 -- what the code's answer for a file tells
 pub request-accepted : (x : Read Request) → requestRead x ≡ RequestRead.Accepted → (q : Request) × (x ≡ accepted q)
 request-accepted (accepted q) e = (q, refl)
-request-accepted (refused n p) e = let z : _≡_ {A = ℕ} 0 1 = cc in absurd (omega arith)
+request-accepted (refused n at) e = absurd (true≢false cc)
 
 pub request-refused : (x : Read Request) {n p : ℕ} → requestRead x ≡ RequestRead.Refused n p → x ≡ refused n p
-request-refused (accepted q) e = let z : _≡_ {A = ℕ} 0 1 = cc in absurd (omega arith)
-request-refused (refused m q) e = cc
+request-refused (accepted q) e = cc
+request-refused (refused n at) e = cc
 
 -- the numbers of a request's file are those of its pairs
 pub numbers-request : {s : List ℕ} {q : Request} → IsRequest s q → map unpacked (numbersOf s) ≡ q

@@ -2,16 +2,14 @@
 use mathlib.Core.Path.{sym, ap, _∙_}
 use native.Mathlib.Omega.{arith}
 use Rattle.files.specs.Cases.{requestRead}
-use Rattle.files.specs.ReadRequest.{readRequestFrom}
-use Rattle.files.proofs.Framing.{WholeFile, refused-frame, whole-file}
-use Rattle.files.proofs.RequestCases.{request-uneven, request-many, request-pairs}
+use Rattle.files.proofs.Framing.{WholeFile, refusal, whole-file}
+use Rattle.files.proofs.RequestCases.{request-unframed, request-uneven, request-many, request-pairs}
 use borrow.Author.Needs.{needs}
 use Rattle.files.proofs.request.read_request.Statement.{statement}
 use Rattle.files.proofs.request.read_request.Tie as tie
 
 returns : tie.Need-returns
-unfolding readRequestFrom
-returns c = ap requestRead (sym (refused-frame _ _ _ (sym (c .before .before .before .unframe .ensures) ∙ c .before .number .given .1)))
+returns c = ap requestRead (sym (request-unframed _ (refusal _ _ (sym (c .before .before .before .unframe .ensures) ∙ c .before .number .given .1))))
 
 whole : (c : tie.After-enum-told) → WholeFile (c .before .before .before .before .args .file .now)
 whole c = whole-file _ _ (sym (c .before .before .unframe .ensures) ∙ c .enum-told .given .1)
