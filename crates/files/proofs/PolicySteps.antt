@@ -1,7 +1,7 @@
 -- What a head is; and that bytes are read as they are written.
 use Prim.Native.Nat.{ℕ, _+_, _≤_, _<_}
 use mathlib.Core.Path.{_≡_, refl, sym, ap, _∙_}
-use mathlib.Core.Bool.{Bool, true, false, cond}
+use mathlib.Core.Bool.{Bool, true, false, true≢false, cond}
 use mathlib.Core.List.{List, [], _∷_}
 use native.Mathlib.Omega.{arith}
 use lib.Dec.{ltb, eqb}
@@ -42,7 +42,7 @@ module _ (most : ℕ) (b : List ℕ) {s : Sort} (left at nodes : ℕ) where
 
 -- a byte that is found is the node's own
 found : {s : Sort} (ns : List (Node s)) (b : ℕ) (n : Node s) → find ns b ≡ tag n → b ≡ tagOf n
-found [] b n e = let z : _≡_ {A = ℕ} 0 1 = cc in absurd (omega arith)
+found [] b n e = absurd (true≢false cc)
 found {s} (m ∷ ns) b n e = go (eqb b (tagOf m)) refl (found ns b n) e
   where
     untag : tag m ≡ tag n → m ≡ n

@@ -1,9 +1,9 @@
 -- A file is refused exactly if there is no policy, or no request, within the limits whose file it is.
 use Prim.Native.Nat.{ℕ}
-use mathlib.Core.Path.{_≡_, refl, sym, _∙_}
+use mathlib.Core.Path.{_≡_, refl}
+use mathlib.Core.Bool.{true≢false}
 use mathlib.Core.Logic.{_↔_}
 use mathlib.Core.List.{List}
-use native.Mathlib.Omega.{arith}
 use Rattle.ptacl.specs.Request.{Request}
 use Rattle.ptacl.specs.Term.{Policy}
 use Rattle.files.specs.Encoding.{Bytes, IsPolicy, IsRequest}
@@ -19,9 +19,8 @@ IsRefusal x = (n : ℕ) × (at : ℕ) × (x ≡ refused n at)
 
 -- of any reading that is exact
 no-such : {A : Type 0} {IsFile : A → Type 0} (x : Read A) → ((a : A) → (x ≡ accepted a) ↔ IsFile a) → IsRefusal x ↔ ((a : A) → IsFile a → ⊥)
-no-such {A} {IsFile} (accepted a) exact =
-    (λ r. let c : _≡_ {A = ℕ} 0 1 = (let e = r .2 in cc) in absurd (omega arith), λ none. absurd (none a (exact a .0 refl)))
-no-such (refused n at) exact = (λ r a f. let e = exact a .1 f in let c : _≡_ {A = ℕ} 0 1 = cc in absurd (omega arith), λ none. (n, at, refl))
+no-such (accepted a) exact = (λ r. let e = r .2 in absurd (true≢false cc), λ none. absurd (none a (exact a .0 refl)))
+no-such (refused n at) exact = (λ r a f. let e = exact a .1 f in absurd (true≢false cc), λ none. (n, at, refl))
 
 pub policy-refused-iff : (s : List ℕ) → Bytes s → IsRefusal (readPolicy s) ↔ ((p : Policy) → IsPolicy s p → ⊥)
 policy-refused-iff s b = no-such (readPolicy s) (policy-exact s b)

@@ -2,6 +2,7 @@
 -- one law for every node, by the node's shape.
 use Prim.Native.Nat.{ℕ, _+_, _-_, _<_, _≤_}
 use mathlib.Core.Path.{_≡_, refl, sym, ap, subst, _∙_}
+use mathlib.Core.Bool.{true≢false}
 use mathlib.Core.List.{List, [], append-nil}
 use native.Mathlib.Omega.{arith}
 use lib.ListN.{length, getD, take, drop, length-append, length-drop}
@@ -181,10 +182,10 @@ module _ {b : List ℕ} {i : ℕ} {s : Sort} {count : ℕ} (p : Has s b i count)
 -- what the code's answer for a file tells
 pub policy-accepted : (x : Read Policy) → policyRead x ≡ PolicyRead.Accepted → (p : Policy) × (x ≡ accepted p)
 policy-accepted (accepted p) e = (p, refl)
-policy-accepted (refused n at) e = let z : _≡_ {A = ℕ} 0 1 = cc in absurd (omega arith)
+policy-accepted (refused n at) e = absurd (true≢false cc)
 
 pub policy-refused : (x : Read Policy) {n p : ℕ} → policyRead x ≡ PolicyRead.Refused n p → x ≡ refused n p
-policy-refused (accepted p) e = let z : _≡_ {A = ℕ} 0 1 = cc in absurd (omega arith)
+policy-refused (accepted p) e = cc
 policy-refused (refused n at) e = cc
 
 -- a file that was accepted; its body, which begins with the policy's first byte
