@@ -1,5 +1,5 @@
 -- `report` is safe and ends: what `list_pairs` promises keeps the pairs within the 254 numbers lent.
-use Prim.Native.Nat.{ℕ, _≤_}
+use Prim.Native.Nat.{_≤_}
 use mathlib.Core.Path.{_≡_, sym}
 use native.Mathlib.Omega.{arith}
 use lib.ListN.{length}
