@@ -1,7 +1,7 @@
 -- A number carried into its place: what the list then holds, that it stays ascending, and the loop that does it.
 use Prim.Native.Nat.{ℕ, suc, _+_, _≤_, _<_}
 use mathlib.Core.Path.{_≡_, refl, sym, ap, subst, _∙_}
-use mathlib.Core.Bool.{Bool, true, _||_, or-self-left}
+use mathlib.Core.Bool.{Bool, true, _||_, or-assoc, or-self-left}
 use mathlib.Core.List.{List, [], _∷_, _++_, map}
 use native.Mathlib.Numerals.{add-one}
 use native.Mathlib.Omega.{arith}
@@ -17,7 +17,7 @@ use Rattle.ptacl.proofs.Order.{below-trans, head-below, cons-ascending}
 use Rattle.evaluate.proofs.Ordered.{below-unpacked}
 use Rattle.pairs.specs.Lists.{carry}
 
-pub carry-holds : (x : ℕ) (l : List ℕ) (z : Pair)
+carry-holds : (x : ℕ) (l : List ℕ) (z : Pair)
     → holds (map unpacked (carry x l)) z ≡ (samePair (unpacked x) z || holds (map unpacked l) z)
 carry-holds x [] z = refl
 carry-holds x (y ∷ l) z = either (eqb y x)
@@ -25,6 +25,14 @@ carry-holds x (y ∷ l) z = either (eqb y x)
     (λ a. rw a (either (ltb x y)
     (λ b. rw (b, carry-holds y l z))
     (λ b. rw (b, carry-holds x l z) (or-swap (samePair (unpacked y) z) (samePair (unpacked x) z) (holds (map unpacked l) z)))))
+
+-- so what was still to come and is carried in is there
+pub carry-moves : (x : ℕ) (l : List ℕ) (z : Pair) (later : Bool) {r : List ℕ} {own : Bool} → r ≡ carry x l → samePair (unpacked x) z ≡ own
+    → (holds (map unpacked r) z || later) ≡ (holds (map unpacked l) z || (own || later))
+carry-moves x l z later {r} {own} e f =
+    let held = holds (map unpacked l) z in
+    ap (λ b. b || later) (ap (λ ns. holds (map unpacked ns) z) e ∙ (carry-holds x l z ∙ ap (λ b. b || held) f))
+    ∙ (or-assoc own held later ∙ or-swap own held later)
 
 -- y before a list into which x was carried, where y is below all of them
 before : (y x : ℕ) (l : List ℕ) → y < x → ((z : Pair) → holds (map unpacked l) z ≡ true → below (unpacked y) z ≡ true)

@@ -1,7 +1,7 @@
 -- The loop that puts the fresh pair of each name to the named pairs.
 use Prim.Native.Nat.{ℕ, _+_, _/_, _≤_, _<_}
 use mathlib.Core.Path.{_≡_, refl, sym, ap, _∙_}
-use mathlib.Core.Bool.{true, _&&_, _||_, or-assoc, or-false, and-or-distrib-right}
+use mathlib.Core.Bool.{true, _&&_, _||_, or-false, and-or-distrib-right}
 use mathlib.Core.List.{List, map}
 use native.Mathlib.Numerals.{add-one}
 use native.Mathlib.Omega.{arith}
@@ -9,14 +9,14 @@ use lib.Dec.{eqb}
 use lib.ListN.{length, take, drop, getD, drop-of-length-le}
 use lib.Seq.{drop-cons, length-take-le, getD-take}
 use borrow.Author.Tests.{eqb-true}
-use Rattle.ptacl.specs.Request.{Pair, samePair, holds, has, ascending}
+use Rattle.ptacl.specs.Request.{Pair, holds, has, ascending}
 use Rattle.ptacl.specs.Pairs.{namedOrFresh, IsPairs, unpacked}
-use Rattle.ptacl.proofs.Bools.{either, or-left, or-swap}
+use Rattle.ptacl.proofs.Bools.{either, or-left}
 use Rattle.ptacl.proofs.Requests.{holds-has}
 use Rattle.evaluate.proofs.Ordered.{entry-held}
 use Rattle.pairs.specs.Lists.{numbers, carry, FreshOf, GoesOn, AllOf}
 use Rattle.pairs.specs.declared.Pairs.{Pairs}
-use Rattle.pairs.proofs.Carry.{carry-holds, carry-ascending}
+use Rattle.pairs.proofs.Carry.{carry-moves, carry-ascending}
 use Rattle.pairs.proofs.Fresh.{smallest, fresh-only}
 use Rattle.pairs.proofs.Same.{pairs-same}
 
@@ -38,56 +38,51 @@ unfolding namedOrFresh
 completed-start named o = record { most = omega arith; room = omega arith; ordered = o; work = λ x. refl }
 
 module _ (from : List ℕ) (count : ℕ) (all : Pairs) (i : ℕ) (c : Completed from count all i) where
-  -- the names from i on
-  names : count ≤ length from → i < count → (name : ℕ) → name ≡ getD from i 0 / 65536 → (n : ℕ) →
-      let l = take count from in
-      has (map unpacked (drop i l)) n ≡ (eqb name n || has (map unpacked (drop (i + 1) l)) n)
-  names fits lt name is n =
-      let l = take count from in
-      let inside : i < length l = omega (arith, length-take-le count from fits) in
-      let here : name ≡ getD l i 0 / 65536 = is ∙ ap (λ y. y / 65536) (sym (getD-take count from i 0 lt)) in
-      rw (here, add-one, drop-cons l i 0 inside)
+  module _ (fits : count ≤ length from) (lt : i < count) (name : ℕ) (is : name ≡ getD from i 0 / 65536) where
+    inside : i < length (take count from)
+    inside = omega (arith, length-take-le count from fits)
 
-  pub completed-next : count ≤ length from → i < count → (name : ℕ) → name ≡ getD from i 0 / 65536
-      → (f : ℕ) → FreshOf (map unpacked (take count from)) name (unpacked f)
-      → (r : Pairs) → r .count ≤ all .count + 1 → numbers r ≡ carry f (numbers all) → Completed from count r (i + 1)
-  completed-next fits lt name is f h r few e = record {
-    most = omega arith;
-    room = omega (arith, c .room);
-    ordered = rw e (carry-ascending f (numbers all) (c .ordered));
-    work = λ x.
-        let l = take count from in
-        let ats = map unpacked l in
-        let inside : i < length l = omega (arith, length-take-le count from fits) in
-        let here : name ≡ getD l i 0 / 65536 = is ∙ ap (λ y. y / 65536) (sym (getD-take count from i 0 lt)) in
-        let own = eqb name (x .0) in
-        let held = holds (map unpacked (numbers all)) x in
-        let later = has (map unpacked (drop (i + 1) l)) (x .0) in
-        let free = smallest ats x in
-        let used : has ats name ≡ true = rw here (holds-has ats _ (entry-held l i inside)) in
-        let fresh : samePair (unpacked f) x ≡ (own && free) = fresh-only ats name (unpacked f) used h x in
-        ap (λ b. b || later && free) (ap (λ ns. holds (map unpacked ns) x) e ∙ (carry-holds f (numbers all) x ∙ ap (λ b. b || held) fresh))
-        ∙ (or-assoc (own && free) held (later && free)
-        ∙ (or-swap (own && free) held (later && free)
-        ∙ (ap (λ b. held || b) (sym (and-or-distrib-right own later free)) ∙ (ap (λ b. held || b && free) (sym (names fits lt name is (x .0))) ∙ c .work x))));
-  }
+    here : name ≡ getD (take count from) i 0 / 65536
+    here = is ∙ ap (λ y. y / 65536) (sym (getD-take count from i 0 lt))
 
-  -- a name that is still to come is left for then
-  pub completed-skip : count ≤ length from → i < count → (name : ℕ) → name ≡ getD from i 0 / 65536
-      → has (map unpacked (drop (i + 1) (take count from))) name ≡ true → Completed from count all (i + 1)
-  completed-skip fits lt name is h = record {
-    most = omega arith;
-    room = omega (arith, c .room);
-    ordered = c .ordered;
-    work = λ x.
+    -- the names from i on
+    names : (n : ℕ) →
         let l = take count from in
-        let held = holds (map unpacked (numbers all)) x in
-        let later = has (map unpacked (drop (i + 1) l)) (x .0) in
-        let free = smallest (map unpacked l) x in
-        let again : later ≡ (eqb name (x .0) || later) = either (eqb name (x .0))
-        (λ e. rw e (ap (has (map unpacked (drop (i + 1) l))) (sym (eqb-true _ _ e)) ∙ h)) (λ e. rw e) in
-        ap (λ b. held || b && free) (again ∙ sym (names fits lt name is (x .0))) ∙ c .work x;
-  }
+        has (map unpacked (drop i l)) n ≡ (eqb name n || has (map unpacked (drop (i + 1) l)) n)
+    names n = rw (here, add-one, drop-cons (take count from) i 0 inside)
+
+    pub completed-next : (f : ℕ) → FreshOf (map unpacked (take count from)) name (unpacked f)
+        → (r : Pairs) → r .count ≤ all .count + 1 → numbers r ≡ carry f (numbers all) → Completed from count r (i + 1)
+    completed-next f h r few e = record {
+      most = omega arith;
+      room = omega (arith, c .room);
+      ordered = rw e (carry-ascending f (numbers all) (c .ordered));
+      work = λ x.
+          let l = take count from in
+          let own = eqb name (x .0) in
+          let held = holds (map unpacked (numbers all)) x in
+          let later = has (map unpacked (drop (i + 1) l)) (x .0) in
+          let free = smallest (map unpacked l) x in
+          let used : has (map unpacked l) name ≡ true = rw here (holds-has (map unpacked l) _ (entry-held l i inside)) in
+          carry-moves f (numbers all) x (later && free) e (fresh-only (map unpacked l) name (unpacked f) used h x)
+          ∙ (ap (λ b. held || b) (sym (and-or-distrib-right own later free)) ∙ (ap (λ b. held || b && free) (sym (names (x .0))) ∙ c .work x));
+    }
+
+    -- a name that is still to come is left for then
+    pub completed-skip : has (map unpacked (drop (i + 1) (take count from))) name ≡ true → Completed from count all (i + 1)
+    completed-skip h = record {
+      most = omega arith;
+      room = omega (arith, c .room);
+      ordered = c .ordered;
+      work = λ x.
+          let l = take count from in
+          let held = holds (map unpacked (numbers all)) x in
+          let later = has (map unpacked (drop (i + 1) l)) (x .0) in
+          let free = smallest (map unpacked l) x in
+          let again : later ≡ (eqb name (x .0) || later) = either (eqb name (x .0))
+          (λ e. rw e (ap (has (map unpacked (drop (i + 1) l))) (sym (eqb-true _ _ e)) ∙ h)) (λ e. rw e) in
+          ap (λ b. held || b && free) (again ∙ sym (names (x .0))) ∙ c .work x;
+    }
 
   whole : count ≤ length from → count ≤ i → IsPairs (map unpacked (take count from)) (map unpacked (numbers all))
   whole fits h =

@@ -1,11 +1,10 @@
 -- The loop that gathers the named pairs: it meets the pairs of the atoms, and carries each into its place.
 use Prim.Native.Nat.{ℕ, _+_, _≤_, _<_}
 use mathlib.Core.Path.{_≡_, sym, ap, _∙_}
-use mathlib.Core.Bool.{true, _||_, or-assoc, or-false}
+use mathlib.Core.Bool.{true, _||_, or-false}
 use mathlib.Core.List.{List, map}
 use native.Mathlib.Omega.{arith}
 use lib.ListN.{length, drop, getD}
-use Rattle.ptacl.proofs.Bools.{or-swap}
 use Rattle.ptacl.specs.Request.{Pair, samePair, holds, ascending}
 use Rattle.ptacl.specs.Pairs.{packed, unpacked}
 use Rattle.ptacl.proofs.Pairs.{atoms-127}
@@ -15,7 +14,7 @@ use Rattle.files.proofs.Numbers.{unpacked-packed}
 use Rattle.files.proofs.Walk.{Item, Walks, pairsMet, items, atoms-met, walk-whole, walk-one, walk-end, walk-atom, walk-node}
 use Rattle.pairs.specs.Lists.{numbers, carry, NamedOf}
 use Rattle.pairs.specs.declared.Pairs.{Pairs}
-use Rattle.pairs.proofs.Carry.{carry-holds, carry-ascending}
+use Rattle.pairs.proofs.Carry.{carry-moves, carry-ascending}
 
 -- the pairs in the list and those still to be met are all
 pub record Gathered (b : List ℕ) (l : Pairs) (at : ℕ) : Type 0 where
@@ -62,11 +61,7 @@ module _ (b : List ℕ) (l : Pairs) (at : ℕ) (g : Gathered b l at) where
         room = omega (arith, ap (λ is. length (pairsMet is)) (s .met), g .room);
         ordered = rw e (carry-ascending y (numbers l) (g .ordered));
         work = λ z.
-            let here = samePair x z in
-            let held = holds (map unpacked (numbers l)) z in
-            let later = holds (pairsMet (s .rest)) z in
-            ap (λ h. h || later) (ap (λ ns. holds (map unpacked ns) z) e ∙ (carry-holds y (numbers l) z ∙ ap (λ w. samePair w z || held) u))
-            ∙ (or-assoc here held later ∙ (or-swap here held later ∙ (rw (s .met) at (g .work z))));
+            carry-moves y (numbers l) z (holds (pairsMet (s .rest)) z) e (ap (λ w. samePair w z) u) ∙ (rw (s .met) at (g .work z));
       }
 
   pub gathered-node : at < length b → (getD b at 0 ≡ 0x10 → ⊥) → Gathered b l (at + 1)
