@@ -10,6 +10,7 @@ ghost use Rattle.files.specs.Places.{Encoded, numbersOf};
 ghost use Rattle.evaluate.specs.Ordered.{Ordered, OrderedFile};
 ghost use Rattle.pairs.specs.Lists.{numbers, carry, NamedOf, FreshOf, GoesOn, AllOf, NormalOf, PairsOf, NormalFormOf};
 use evaluate::order;
+use files::tags;
 
 // An ascending list of pairs, each name * 65536 + value.
 pub struct Pairs {
@@ -48,7 +49,7 @@ fn named_of(term: &[u8]) -> Pairs
     let mut count = 0;
     let mut at = 0;
     while at < term.len() {
-        if term[at] == 0x10 {
+        if term[at] == tags::TARGET_ATOM {
             count = insert(&mut pairs, count, files::bytes::pair(term, at + 1));
             at += 5;
         } else {
