@@ -65,33 +65,15 @@ module _ (t : ℕ) where
       getD (a .file .now) (a .at) 0 ≡ tagOf (anAnd policy)
   and-tag c = has-and-tag (inner (c .before .before .before .before)) (c .before .if4 .left) (c .if5 .left)
 
-  shared-slice-read-tag : lts.Need-shared-slice-read-tag (cs t) (at t) eval-policy.Post
-  shared-slice-read-tag c = has-room (given c .1 .0)
-
-  add-t20 : lts.Need-add-t20 (cs t) (at t) eval-policy.Post
-  add-t20 c = omega (arith, has-room (given (c .before) .1 .0))
-
   returns : lts.Need-returns (cs t) (at t) eval-policy.Post
   returns c = is-deny (c .if1 .taken) refl
-
-  add-t22 : lts.Need-add-t22 (cs t) (at t) eval-policy.Post
-  add-t22 c = omega (arith, has-room (given (c .before .before) .1 .0))
 
   returns-2 : lts.Need-returns-2 (cs t) (at t) eval-policy.Post
   returns-2 c = is-allow (c .if2 .taken) refl
 
-  add-eval-target : lts.Need-add-eval-target (cs t) (at t) eval-policy.Post
-  add-eval-target c = omega (arith, has-room (given (c .before .before .before) .1 .0))
-
-  sub-eval-target : lts.Need-sub-eval-target (cs t) (at t) eval-policy.Post
-  sub-eval-target c = has-left (given (c .before .before .before) .1 .0)
-
   eval-target-requires : lts.Need-eval-target-requires (cs t) (at t) eval-policy.Post
   eval-target-requires c κs =
       (parts aTargeted (c .if3 .taken) (given (c .before .before .before) .1 .0) .0, given (c .before .before .before) .1 .1)
-
-  sub-eval-policy : lts.Need-sub-eval-policy (cs t) (at t) eval-policy.Post
-  sub-eval-policy c = has-left (given (c .before .before .before .before) .1 .0)
 
   eval-policy-requires : lts.Need-eval-policy-requires (cs t) (at t) eval-policy.Post
   eval-policy-requires c κs =
@@ -105,12 +87,6 @@ module _ (t : ℕ) where
       (c .before .before .eval-policy .ensures)
       (c .targeted .ensures)
 
-  add-eval-policy : lts.Need-add-eval-policy (cs t) (at t) eval-policy.Post
-  add-eval-policy c = omega (arith, has-room (given (c .before .before .before) .1 .0))
-
-  sub-eval-policy-2 : lts.Need-sub-eval-policy-2 (cs t) (at t) eval-policy.Post
-  sub-eval-policy-2 c = has-left (given (c .before .before .before) .1 .0)
-
   eval-policy-requires-2 : lts.Need-eval-policy-requires-2 (cs t) (at t) eval-policy.Post
   eval-policy-requires-2 c κs = let g = given (c .before .before .before) in for-part g (has-first (g .1 .0) (inner c))
 
@@ -119,9 +95,6 @@ module _ (t : ℕ) where
 
   returns-5 : lts.Need-returns-5 (cs t) (at t) eval-policy.Post
   returns-5 c = is-default (c .before .if5 .taken) (c .before .before .before .before .eval-policy2 .ensures) (c .deny-by-default .ensures)
-
-  sub-eval-policy-3 : lts.Need-sub-eval-policy-3 (cs t) (at t) eval-policy.Post
-  sub-eval-policy-3 c = has-left (given (c .before .before .before .before .before .before .before) .1 .0)
 
   eval-policy-requires-3 : lts.Need-eval-policy-requires-3 (cs t) (at t) eval-policy.Post
   eval-policy-requires-3 c κs =
@@ -137,26 +110,26 @@ module _ (t : ℕ) where
 
 pub +eval-policy-spec : {M : Type 1} → statement M
 +eval-policy-spec = close μ λ t. lts.spec (cs t) (at t) eval-policy.Post
-    (shared-slice-read-tag t)
-    (add-t20 t)
+    (λ c. has-room (given t c .1 .0))
+    (λ c. omega (arith, has-room (given t (c .before) .1 .0)))
     (returns t)
-    (add-t22 t)
+    (λ c. omega (arith, has-room (given t (c .before .before) .1 .0)))
     (returns-2 t)
-    (add-eval-target t)
-    (sub-eval-target t)
+    (λ c. omega (arith, has-room (given t (c .before .before .before) .1 .0)))
+    (λ c. has-left (given t (c .before .before .before) .1 .0))
     (eval-target-requires t)
-    (sub-eval-policy t)
+    (λ c. has-left (given t (c .before .before .before .before) .1 .0))
     (eval-policy-requires t)
     (λ c κs. tt)
     (returns-3 t)
-    (add-eval-policy t)
-    (sub-eval-policy-2 t)
+    (λ c. omega (arith, has-room (given t (c .before .before .before) .1 .0)))
+    (λ c. has-left (given t (c .before .before .before) .1 .0))
     (eval-policy-requires-2 t)
     (λ c κs. tt)
     (returns-4 t)
     (λ c κs. tt)
     (returns-5 t)
-    (sub-eval-policy-3 t)
+    (λ c. has-left (given t (c .before .before .before .before .before .before .before) .1 .0))
     (eval-policy-requires-3 t)
     (λ c κs. tt)
     (returns-6 t)

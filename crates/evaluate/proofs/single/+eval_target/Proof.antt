@@ -65,12 +65,6 @@ module _ (t : ℕ) where
       let a = c .before .before .before .before .before .before .before .args in getD (a .file .now) (a .at) 0 ≡ tagOf (anAnd target)
   and-tag c = has-and-tag (inner (c .before .before .before)) (c .before .if2 .left) (c .if3 .left)
 
-  shared-slice-read-tag : lts.Need-shared-slice-read-tag (cs t) (at t) eval-target.Post
-  shared-slice-read-tag c = has-room (given c .1 .0)
-
-  add-pair : lts.Need-add-pair (cs t) (at t) eval-target.Post
-  add-pair c = omega (arith, has-room (given (c .before) .1 .0))
-
   pair-requires : lts.Need-pair-requires (cs t) (at t) eval-target.Post
   pair-requires c κs = omega (arith, parts anAtom (c .if1 .taken) (given (c .before) .1 .0))
 
@@ -85,12 +79,6 @@ module _ (t : ℕ) where
       (lent-bytes (c .before .before .before .shared-slice-known3 .given))
       (c .before .before .if1 .taken) (c .before .pair .ensures) (c .atom .ensures)
 
-  add-eval-target : lts.Need-add-eval-target (cs t) (at t) eval-target.Post
-  add-eval-target c = omega (arith, has-room (given (c .before) .1 .0))
-
-  sub-eval-target : lts.Need-sub-eval-target (cs t) (at t) eval-target.Post
-  sub-eval-target c = has-left (given (c .before) .1 .0)
-
   eval-target-requires : lts.Need-eval-target-requires (cs t) (at t) eval-target.Post
   eval-target-requires c κs = let g = given (c .before) in for-part g (has-first (g .1 .0) (inner c))
 
@@ -99,9 +87,6 @@ module _ (t : ℕ) where
 
   returns-3 : lts.Need-returns-3 (cs t) (at t) eval-target.Post
   returns-3 c = is-default (c .before .if3 .taken) (c .before .before .before .eval-target .ensures) (c .optional .ensures)
-
-  sub-eval-target-2 : lts.Need-sub-eval-target-2 (cs t) (at t) eval-target.Post
-  sub-eval-target-2 c = has-left (given (c .before .before .before .before) .1 .0)
 
   eval-target-requires-2 : lts.Need-eval-target-requires-2 (cs t) (at t) eval-target.Post
   eval-target-requires-2 c κs =
@@ -117,20 +102,20 @@ module _ (t : ℕ) where
 
 pub +eval-target-spec : {M : Type 1} → statement M
 +eval-target-spec = close μ λ t. lts.spec (cs t) (at t) eval-target.Post
-    (shared-slice-read-tag t)
-    (add-pair t)
+    (λ c. has-room (given t c .1 .0))
+    (λ c. omega (arith, has-room (given t (c .before) .1 .0)))
     (pair-requires t)
     (atom-requires t)
     (add-t17 t)
     (returns t)
-    (add-eval-target t)
-    (sub-eval-target t)
+    (λ c. omega (arith, has-room (given t (c .before) .1 .0)))
+    (λ c. has-left (given t (c .before) .1 .0))
     (eval-target-requires t)
     (λ c κs. tt)
     (returns-2 t)
     (λ c κs. tt)
     (returns-3 t)
-    (sub-eval-target-2 t)
+    (λ c. has-left (given t (c .before .before .before .before) .1 .0))
     (eval-target-requires-2 t)
     (λ c κs. tt)
     (returns-4 t)
