@@ -7,9 +7,6 @@ use borrow.Author.Needs.{needs}
 use Rattle.files.proofs.write.put_frame.Statement.{statement}
 use Rattle.files.proofs.write.put_frame.Tie as tie
 
-slice-write-space-2 : tie.Need-slice-write-space-2
-slice-write-space-2 c = simp length-set (omega arith)
-
 returns : tie.Need-returns
 returns c = three-stores (c .args .space .now) 1 (c .args .body / 256) (c .args .body % 256) (c .pre .0)
 
@@ -19,7 +16,7 @@ put-frame-spec =
     (tie.spec
     (λ c. search needs)
     (λ c. search needs)
-    slice-write-space-2
+    (λ c. simp length-set (omega arith))
     (λ c. search needs)
     (λ c. search needs)
     (λ c. search needs)

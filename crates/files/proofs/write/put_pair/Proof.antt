@@ -9,15 +9,6 @@ use borrow.Author.Needs.{needs}
 use Rattle.files.proofs.write.put_pair.Statement.{statement}
 use Rattle.files.proofs.write.put_pair.Tie as tie
 
-slice-write-space-2 : tie.Need-slice-write-space-2
-slice-write-space-2 c = simp length-set (omega arith)
-
-slice-write-space-3 : tie.Need-slice-write-space-3
-slice-write-space-3 c = simp length-set (omega arith)
-
-slice-write-space-4 : tie.Need-slice-write-space-4
-slice-write-space-4 c = simp length-set (omega arith)
-
 returns : tie.Need-returns
 unfolding pairBytes
 returns c =
@@ -35,12 +26,12 @@ put-pair-spec =
     (λ c. search needs)
     (λ c. search needs)
     (λ c. search needs)
-    slice-write-space-2
+    (λ c. simp length-set (omega arith))
     (λ c. search needs)
     (λ c. search needs)
-    slice-write-space-3
+    (λ c. simp length-set (omega arith))
     (λ c. search needs)
     (λ c. search needs)
-    slice-write-space-4
+    (λ c. simp length-set (omega arith))
     (λ c. search needs)
     returns)
