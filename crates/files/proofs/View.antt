@@ -3,7 +3,7 @@
 use Prim.Native.Nat.{ℕ, _+_, _-_, _<_, _≤_}
 use mathlib.Core.Path.{_≡_, refl, sym, ap, subst, _∙_}
 use mathlib.Core.Bool.{true≢false}
-use mathlib.Core.List.{List, [], append-nil}
+use mathlib.Core.List.{List, [], _∷_, append-nil}
 use native.Mathlib.Omega.{arith}
 use lib.ListN.{length, getD, take, drop, length-append, length-drop}
 use lib.Seq.{take-all}
@@ -51,35 +51,25 @@ module _ {b : List ℕ} {i : ℕ} where
   unfolding enc
   view t = by-shape (λ s t. At b i (enc t) → View b i t) (λ s k. go k (shape k) refl (adds bytes k)) t
     where
+      seen : {s : Sort} (k : Node s) {t : Term s} {xs : List ℕ} → At b i (tagOf k ∷ xs) → 1 ≤ nodes t → Parts b i (shape k) t → View b i t
+      seen k a n x = record { node = k; is = head a; inside = room a; some = n; parts = x }
+
       go : {s : Sort} (k : Node s) (g : Shape s) → shape k ≡ g → Adds bytes k g → Case (λ s t. At b i (enc t) → View b i t) g
       go k (numbers f) e law = λ n v h.
           let w = law n v tt in
           let a = rw (w .0) at h in
-          record {
-            node = k;
-            is = head a;
-            inside = room a;
-            some = omega arith;
-            parts = rw e (pair-room i n v (tail a), rw (pair-name i n v (tail a), pair-value i n v (tail a)));
-          }
+          seen k a (omega arith) (rw e (pair-room i n v (tail a), rw (pair-name i n v (tail a), pair-value i n v (tail a))))
       go k (leaf t) e law = λ h.
           let w = law tt in
-          let a = rw (w .0) at h in
-          record { node = k; is = head a; inside = room a; some = omega arith; parts = rw e }
+          seen k (rw (w .0) at h) (omega arith) (rw e)
       go k (one f) e law = λ t _ h.
           let w = law t tt in
           let a = rw (w .0) at h in
-          record { node = k; is = head a; inside = room a; some = omega arith; parts = rw e (t, tail a, refl) }
+          seen k a (omega arith) (rw e (t, tail a, refl))
       go k (two r f) e law = λ t u _ _ h.
           let w = law t u tt in
           let a = rw (w .0) at h in
-          record {
-            node = k;
-            is = head a;
-            inside = room a;
-            some = omega arith;
-            parts = rw e (t, u, left (enc t) (enc u) (tail a), right (enc t) (enc u) (tail a), refl);
-          }
+          seen k a (omega arith) (rw e (t, u, left (enc t) (enc u) (tail a), right (enc t) (enc u) (tail a), refl))
 
   -- it holds of every term at i, by the byte there
   pub as-node : {s : Sort} (n : Node s) (P : Term s → Type 0) → getD b i 0 ≡ tagOf n → Of b i P (shape n) → (t : Term s) → At b i (enc t) → P t
