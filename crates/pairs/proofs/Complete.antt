@@ -3,16 +3,16 @@ use Prim.Native.Nat.{ℕ, _+_, _/_, _≤_, _<_}
 use mathlib.Core.Path.{_≡_, refl, sym, ap, _∙_}
 use mathlib.Core.Bool.{true, _&&_, _||_, or-false, and-or-distrib-right}
 use mathlib.Core.List.{List, map}
-use native.Mathlib.Numerals.{add-one}
 use native.Mathlib.Omega.{arith}
 use lib.Dec.{eqb}
 use lib.ListN.{length, take, drop, getD, drop-of-length-le}
-use lib.Seq.{drop-cons, length-take-le, getD-take}
+use lib.Seq.{length-take-le, getD-take}
 use borrow.Author.Tests.{eqb-true}
 use Rattle.ptacl.specs.Request.{Pair, holds, has, ascending}
 use Rattle.ptacl.specs.Pairs.{namedOrFresh, IsPairs, unpacked}
 use Rattle.ptacl.proofs.Bools.{either, or-left}
 use Rattle.ptacl.proofs.Requests.{holds-has}
+use Rattle.files.proofs.Places.{more}
 use Rattle.evaluate.proofs.Ordered.{entry-held}
 use Rattle.pairs.specs.Lists.{numbers, carry, FreshOf, GoesOn, AllOf}
 use Rattle.pairs.specs.declared.Pairs.{Pairs}
@@ -21,7 +21,7 @@ use Rattle.pairs.proofs.Fresh.{smallest, fresh-only}
 use Rattle.pairs.proofs.Same.{pairs-same}
 
 pub next-name : (list : List ℕ) (i name : ℕ) → i + 1 < length list → GoesOn list i name (eqb (getD list (i + 1) 0 / 65536) name)
-next-name list i name h = record { later = λ e. rw (drop-cons list (i + 1) 0 h) (or-left _ e) }
+next-name list i name h = record { later = λ e. rw (more list (i + 1) h) (or-left _ e) }
 
 -- the pairs in the list and the fresh ones of the names still to come are all
 pub record Completed (from : List ℕ) (count : ℕ) (all : Pairs) (i : ℕ) : Type 0 where
@@ -49,7 +49,7 @@ module _ (from : List ℕ) (count : ℕ) (all : Pairs) (i : ℕ) (c : Completed 
     names : (n : ℕ) →
         let l = take count from in
         has (map unpacked (drop i l)) n ≡ (eqb name n || has (map unpacked (drop (i + 1) l)) n)
-    names n = rw (here, add-one, drop-cons (take count from) i 0 inside)
+    names n = rw (here, more (take count from) i inside)
 
     pub completed-next : (f : ℕ) → FreshOf (map unpacked (take count from)) name (unpacked f)
         → (r : Pairs) → r .count ≤ all .count + 1 → numbers r ≡ carry f (numbers all) → Completed from count r (i + 1)

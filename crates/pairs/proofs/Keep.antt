@@ -7,7 +7,7 @@ use native.Mathlib.Numerals.{add-one}
 use native.Mathlib.Omega.{arith}
 use lib.Dec.{eqb}
 use lib.ListN.{length, take, drop, set, getD, length-set, drop-of-length-le}
-use lib.Seq.{drop-cons, take-suc-set, append-snoc, length-take-le, getD-take}
+use lib.Seq.{take-suc-set, append-snoc, length-take-le, getD-take}
 use borrow.Author.Tests.{eq-eqb, ne-eqb}
 use Rattle.ptacl.specs.Request.{Pair, Request, samePair, holds}
 use Rattle.ptacl.specs.Pairs.{named, fresh, namedOrFresh, IsPairs, packed, unpacked, unnamed, normal, IsNormal}
@@ -17,10 +17,8 @@ use Rattle.ptacl.proofs.Requests.{pair-equal}
 use Rattle.ptacl.proofs.Fresh.{fresh-unnamed}
 use Rattle.ptacl.proofs.Bits.{put-odd, put-half}
 use Rattle.ptacl.proofs.Subset.{subset-map, mask, normal-subset}
+use Rattle.files.proofs.Places.{more}
 use Rattle.evaluate.proofs.Ordered.{entry-held}
-
-next : (l : List ℕ) (i : ℕ) → i < length l → drop i l ≡ getD l i 0 ∷ drop (i + 1) l
-next l i h = rw add-one (drop-cons l i 0 h)
 
 -- the pair was found, or, if it is in the list at all, is still ahead
 pub record Sought (l : List ℕ) (x : ℕ) (found : Bool) (i : ℕ) : Type 0 where
@@ -34,7 +32,7 @@ module _ {l : List ℕ} {x i : ℕ} {found : Bool} (s : Sought l x found i) wher
   sought-hit h e = record { work = sym (subst (λ z. holds (map unpacked l) (unpacked z) ≡ true) e (entry-held l i h)) }
 
   pub sought-other : i < length l → (getD l i 0 ≡ x → ⊥) → Sought l x found (i + 1)
-  sought-other h n = record { work = rw (next l i h, other) at (s .work) }
+  sought-other h n = record { work = rw (more l i h, other) at (s .work) }
     where
       other : samePair (unpacked (getD l i 0)) (unpacked x) ≡ false
       other = refute (λ k. let e = ap packed (pair-equal (unpacked (getD l i 0)) (unpacked x) k) in n (omega arith))
@@ -53,7 +51,7 @@ module _ (ats : List Pair) (q : List ℕ) (n i : ℕ) (a : Ahead ats q n i) wher
   split : i < length q
       → (eqb (getD q i 0 / 65536) n && not (named ats (unpacked (getD q i 0))) || unnamed ats (map unpacked (drop (i + 1) q)) n)
       ≡ unnamed ats (map unpacked q) n
-  split h = sym (ap (λ l. unnamed ats (map unpacked l) n) (next q i h)) ∙ a .work
+  split h = sym (ap (λ l. unnamed ats (map unpacked l) n) (more q i h)) ∙ a .work
 
   module _ {x : ℕ} (h : i < length q) (g : x ≡ getD q i 0) where
     pub ahead-hit : x / 65536 ≡ n → named ats (unpacked x) ≡ false → true ≡ unnamed ats (map unpacked q) n
@@ -107,7 +105,7 @@ module _ (f : Pair → Bool) (pairs : List ℕ) (count : ℕ) (kept : List ℕ) 
   step lt e =
       let l = take count pairs in
       let rest = chosen f (drop (i + 1) l) in
-      ap (chosen f) (next l i (omega (arith, length-take-le count pairs fits)))
+      ap (chosen f) (more l i (omega (arith, length-take-le count pairs fits)))
       ∙ (chosen-cons f (getD l i 0) (drop (i + 1) l) ∙ rw (getD-take count pairs i 0 lt) (ap (λ z. cond z (getD pairs i 0 ∷ rest) rest) e))
 
   pub kept-in : count ≤ 254 → i < count → f (unpacked (getD pairs i 0)) ≡ true
