@@ -13,6 +13,7 @@ use Rattle.ptacl.proofs.Bools.{either}
 use Rattle.ptacl.proofs.Bits.{odd, bit-zero, bit-suc, less-low, less-odd, less-high}
 use Rattle.files.specs.Memory.{over}
 use Rattle.files.proofs.Memory.{over-nil}
+use Rattle.files.proofs.Places.{more}
 
 -- one more at the front
 over-more : (xs s : List ℕ) (x : ℕ) → length xs < length s → set (over xs s) (length xs) x ≡ over (xs ++ (x ∷ [])) s
@@ -46,7 +47,7 @@ module _ {pairs : List ℕ} {m : ℕ} {out₀ out : List ℕ} {rest i k : ℕ} (
     others = subset (drop (i + 1) pairs) (rest / 2)
 
     next : subset (drop i pairs) rest ≡ cond (odd rest) (getD pairs i 0 ∷ others) others
-    next = rw (drop-cons pairs i 0 h, add-one i)
+    next = rw (more pairs i h)
 
     pub chosen-with : length pairs ≤ length out₀ → rest % 2 ≡ 1
         → Chosen pairs m out₀ (set out k (getD pairs i 0)) (rest / 2) (i + 1) (k + 1)
