@@ -6,7 +6,7 @@ use mathlib.Core.Logic.{_↔_, ⊎-elim}
 use mathlib.Core.Bool.{true}
 use mathlib.Core.List.{List, [], _∷_}
 use native.Mathlib.Omega.{arith}
-use Rattle.ptacl.specs.Request.{Pair, Request, samePair, holds, Within, ascending}
+use Rattle.ptacl.specs.Request.{Pair, Request, samePair, holds, Within}
 use Rattle.ptacl.specs.Term.{Policy, atoms}
 use Rattle.ptacl.specs.Pairs.{named, fresh, namedOrFresh, normal, IsPairs, IsNormal}
 use Rattle.ptacl.specs.Exposure.{Reading, ResistantBy, subset}

@@ -1,7 +1,7 @@
 -- The list of a policy's pairs: there is one and only one, at most twice as long as the list of atoms, and within the limits at most 254.
 use Prim.Native.Nat.{ℕ, _≤_, _+_, _*_, suc}
 use mathlib.Core.Path.{_≡_, refl, sym, ap, subst, _∙_}
-use mathlib.Core.Bool.{Bool, true, false, cond, _||_, or-self-left}
+use mathlib.Core.Bool.{true, cond, _||_, or-self-left}
 use mathlib.Core.List.{List, [], _∷_, _++_, map}
 use native.Mathlib.Omega.{arith}
 use lib.ListN.{length, length-append, length-map}

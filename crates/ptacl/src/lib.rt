@@ -1,6 +1,6 @@
 // PTaCL: the three values of a target, and decision sets.
 ghost use mathlib.Core.Path.{_≡_};
-ghost use Rattle.ptacl.specs.Value.{notV, defaultV, andV, vU};
+ghost use Rattle.ptacl.specs.Value.{notV, defaultV, andV};
 ghost use Rattle.ptacl.specs.Values.{single, union, each, each2, under, code, setOf};
 ghost use Rattle.ptacl.specs.Cases.{valueOf};
 

@@ -1,16 +1,15 @@
 -- How a promise is shown to leave one outcome: each way keeps it, and a definition back from answers tells the enum's cases apart.
 use Prim.Native.Nat.{ℕ}
 use mathlib.Core.Path.{_≡_, refl, sym, ap, subst, _∙_}
-use mathlib.Core.Bool.{Bool, true, false}
+use mathlib.Core.Bool.{Bool, true≢false}
 use mathlib.Core.List.{List}
-use native.Mathlib.Omega.{arith}
 use Rattle.ptacl.specs.Request.{Request}
 use Rattle.ptacl.specs.Term.{Policy}
 use Rattle.ptacl.proofs.Bools.{clash}
 use Rattle.files.specs.Refusal.{Read, accepted}
 use Rattle.files.proofs.PolicyExact.{policy-reads}
 use Rattle.files.proofs.RequestExact.{request-reads}
-use Rattle.sinkheron.specs.Answer.{Answer, refusal, success, Promise, OneOutcome}
+use Rattle.sinkheron.specs.Answer.{Answer, refusal, Promise, OneOutcome}
 use Rattle.sinkheron.specs.Ways.{OfPolicy, OfRequest, Reads, unread, holding, The, the, RefusedIf, stops, passes, Gives, gives}
 use Rattle.sinkheron.proofs.Ranges.{Ranged}
 
@@ -35,8 +34,8 @@ module _ {A M : Type 0} where
       let k : n ≡ n' = cc in
       let l : at ≡ at' = cc in
       λ i. (refusal (k i) (l i), before)
-  reads-one r o _ _ _ _ (unread d) (holding {f} h e) = let g = r f h in let c : _≡_ {A = ℕ} 0 1 = cc in absurd (omega arith)
-  reads-one r o _ _ _ _ (holding {f} h d) (unread e) = let g = r f h in let c : _≡_ {A = ℕ} 0 1 = cc in absurd (omega arith)
+  reads-one r o _ _ _ _ (unread d) (holding {f} h e) = let g = r f h in absurd (true≢false cc)
+  reads-one r o _ _ _ _ (holding {f} h d) (unread e) = let g = r f h in absurd (true≢false cc)
   reads-one {follows = follows} r o x y m m' (holding {f} h d) (holding {f = f'} k e) =
       let a = r f h in
       let b = r f' k in

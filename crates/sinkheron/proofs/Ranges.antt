@@ -1,5 +1,5 @@
 -- How large the parts of a permitted answer are, way by way: each stands in its own bits of the word, and a refusal's number is above 0.
-use Prim.Native.Nat.{ℕ, _+_, _*_, _^_, _%_, _-_, _≤_, _<_}
+use Prim.Native.Nat.{ℕ, _^_, _%_, _-_, _≤_, _<_}
 use mathlib.Core.Path.{_≡_, refl, ap, _∙_}
 use mathlib.Core.Bool.{Bool, true, false, _&&_}
 use mathlib.Core.List.{List}
@@ -13,7 +13,7 @@ use Rattle.ptacl.specs.Request.{Pair, Request}
 use Rattle.ptacl.specs.Term.{Policy, nodes, atoms}
 use Rattle.ptacl.specs.Meaning.{eval}
 use Rattle.ptacl.specs.Pairs.{normal, IsNormal, packed}
-use Rattle.ptacl.specs.Exposure.{subset, Exposure, First}
+use Rattle.ptacl.specs.Exposure.{subset, Exposure}
 use Rattle.ptacl.specs.Rules.{Certified, Certificate, cert1, cert2, cert3, cert4, cert5, cert6, none, least}
 use Rattle.ptacl.proofs.Bools.{and-left, and-right}
 use Rattle.ptacl.proofs.Codes.{code-set, of-code}

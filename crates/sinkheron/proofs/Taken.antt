@@ -1,6 +1,7 @@
 -- What an operation knows of its files once they were accepted: the policy and the request that they hold.
 use Prim.Native.Nat.{ℕ}
 use mathlib.Core.Path.{_≡_, refl, ap, _∙_}
+use mathlib.Core.Bool.{true≢false}
 use mathlib.Core.List.{List, map}
 use native.Mathlib.Omega.{arith}
 use mir.Syntax.{w8}
@@ -74,12 +75,12 @@ module _ {s t : List ℕ} (bytes : (i : ℕ) → Fits w8 (getD s i 0)) where
           → OfPolicy s before (λ p. OfRequest t before (follows p)) (refusal n at) before
       go (refused m b) d y k h = unread (d ∙ same-refusal h)
       go (accepted p) d (refused m b) k h = holding (policy-exact s (lent-bytes bytes) p .0 d) (unread (k ∙ same-refusal h))
-      go (accepted p) d (accepted q) k h = let z : _≡_ {A = ℕ} 0 1 = cc in absurd (omega arith)
+      go (accepted p) d (accepted q) k h = absurd (true≢false cc)
 
   pub files-taken : ((i : ℕ) → Fits w8 (getD t i 0)) → filesRead (readPolicy s) (readRequest t) ≡ FilesRead.Accepted → PolicyFile s × Sent t
   files-taken more e = go (readPolicy s) refl (readRequest t) refl e
     where
       go : (x : Read Policy) → readPolicy s ≡ x → (y : Read Request) → readRequest t ≡ y → filesRead x y ≡ FilesRead.Accepted → PolicyFile s × Sent t
-      go (refused m b) d y k h = let z : _≡_ {A = ℕ} 0 1 = cc in absurd (omega arith)
-      go (accepted p) d (refused m b) k h = let z : _≡_ {A = ℕ} 0 1 = cc in absurd (omega arith)
+      go (refused m b) d y k h = absurd (true≢false cc)
+      go (accepted p) d (refused m b) k h = absurd (true≢false cc)
       go (accepted p) d (accepted q) k h = (record { term = p; file = policy-exact s (lent-bytes bytes) p .0 d }, request-sent more k)

@@ -6,9 +6,9 @@ use mathlib.Core.List.{List, [], _∷_, map}
 use lib.ListN.{length}
 use Rattle.ptacl.specs.Term.{Policy, atom, allow, targeted, atoms}
 use Rattle.ptacl.proofs.Pairs.{pairsOf}
-use Rattle.ptacl.proofs.Worked.{Row, Right, AllRight, Verdict, resistant, exposedAt, table, worked}
+use Rattle.ptacl.proofs.Worked.{Row, AllRight, resistant, exposedAt, table, worked}
 use Rattle.files.specs.Encoding.{framed, pairBytes, requestFile}
-use Rattle.files.specs.Refusal.{Read, accepted, unframed}
+use Rattle.files.specs.Refusal.{accepted, unframed}
 use Rattle.files.specs.Prefix.{below, body, scan}
 use Rattle.files.specs.ReadPolicy.{byteAt, headAt, pairAt, readPolicy}
 use Rattle.search.specs.Found.{twoFiles, exposureFiles}

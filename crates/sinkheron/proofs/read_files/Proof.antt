@@ -1,6 +1,6 @@
 -- The policy's refusals stand before the request's.
 use borrow.Author.Needs.{needs}
-use mathlib.Core.Path.{_≡_, sym, _∙_}
+use mathlib.Core.Path.{sym, _∙_}
 use Rattle.files.specs.ReadPolicy.{readPolicy}
 use Rattle.files.specs.ReadRequest.{readRequest}
 use Rattle.files.proofs.View.{policy-accepted, policy-refused}
