@@ -49,16 +49,17 @@ pub for-part : {s : Sort} {b : List ℕ} {i left t m : ℕ} {P : Type 0} → (le
     → (left - 1 < t) × (Has s b m (left - 1) × P)
 for-part p h = (omega (arith, has-left (p .1 .0)), (h, p .1 .1))
 
+-- an atom's pair, as a number, tells the two that stand there
+pub of-pair : (b : List ℕ) (i : ℕ) (q : Request) {x : ℕ} {v : Value} → Bytes b → x ≡ packed (dec16 b i, dec16 b (i + 2))
+    → v ≡ atomAt q (x / 65536) (x % 65536) → v ≡ atomAt q (dec16 b i) (dec16 b (i + 2))
+of-pair b i q {x} bs e f = f ∙ ap (λ y. atomAt q (y .0) (y .1)) its
+  where
+    its : unpacked x ≡ (dec16 b i, dec16 b (i + 2))
+    its = ap unpacked e ∙ unpacked-packed _ (dec16-range bs (i + 2))
+
 module _ {b : List ℕ} {i : ℕ} {q : Request} where
-  pub is-atom : {x : ℕ} {v : Value} → Bytes b → getD b i 0 ≡ tagOf anAtom → x ≡ packed (dec16 b (i + 1), dec16 b (i + 1 + 2))
-      → v ≡ atomAt q (x / 65536) (x % 65536) → Evaluated target b i q v (i + 5)
-  is-atom {x = x} bs e f g = record {
-    value = as-node anAtom _ e (λ r. rw (← add-assoc i 1 2) (g ∙ ap (λ y. atomAt q (y .0) (y .1)) its));
-    past = ends anAtom e refl;
-  }
-    where
-      its : unpacked x ≡ (dec16 b (i + 1), dec16 b (i + 1 + 2))
-      its = ap unpacked f ∙ unpacked-packed _ (dec16-range bs (i + 1 + 2))
+  pub is-atom : {v : Value} → getD b i 0 ≡ tagOf anAtom → v ≡ atomAt q (dec16 b (i + 1)) (dec16 b (i + 1 + 2)) → Evaluated target b i q v (i + 5)
+  is-atom e f = record { value = as-node anAtom _ e (λ r. rw (← add-assoc i 1 2) f); past = ends anAtom e refl }
 
   pub is-deny : {c : ℕ} → getD b i 0 ≡ tagOf aDeny → c ≡ code (single v0) → Evaluated policy b i q c (i + 1)
   is-deny e f = record { value = as-node aDeny _ e f; past = ends aDeny e refl }

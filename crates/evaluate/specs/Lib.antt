@@ -1,2 +1,3 @@
 pub mod Ordered
 pub mod Evaluated
+pub mod Walked

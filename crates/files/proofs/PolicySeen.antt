@@ -4,14 +4,15 @@ use mathlib.Core.Path.{_≡_, refl, sym, ap, ap₂, subst, _∙_}
 use mathlib.Core.Bool.{Bool, true, false, cond}
 use mathlib.Core.List.{List}
 use native.Mathlib.Omega.{arith}
-use lib.Dec.{ltb}
-use lib.ListN.{length}
-use Rattle.ptacl.specs.Term.{Sort, target, policy, Policy, Node, Shape, numbers, leaf, one, two, shape}
+use lib.Dec.{eqb, ltb}
+use lib.ListN.{length, getD}
+use Rattle.ptacl.specs.Request.{Pair}
+use Rattle.ptacl.specs.Term.{Sort, target, policy, Policy, Node, tagOf, Shape, numbers, leaf, one, two, shape}
 use Rattle.files.specs.Encoding.{bytes}
-use Rattle.files.specs.Refusal.{refused, accepted, unframed}
+use Rattle.files.specs.Refusal.{refused, accepted, dec16, unframed}
 use Rattle.files.specs.Prefix.{Head, node, stop, Scan, done, fault, andThen, Subterms, below, body, scan}
-use Rattle.files.specs.ReadPolicy.{Byte, tag, unknown, headAt, pairAt, inBytes, finish, readPolicy}
-use Rattle.files.specs.Cases.{sortOf, sortName, shapeName, byteOf, headOf, seen, wordOf, Small, Scans, Tells, policyRead, frameOf}
+use Rattle.files.specs.ReadPolicy.{Byte, tag, unknown, byteAt, limitOf, tagged, headAt, pairAt, inBytes, finish, readPolicy}
+use Rattle.files.specs.Cases.{sortOf, sortName, shapeName, byteOf, headOf, seen, wordOf, Small, Scans, Tells, Finishes, policyRead, frameOf}
 use Rattle.files.specs.declared.frame.Frame.{Frame}
 use Rattle.files.specs.declared.policy.Sort.{Sort as SortC}
 use Rattle.files.specs.declared.policy.Shape.{Shape as ShapeC}
@@ -23,9 +24,9 @@ use borrow.Author.Tests.{ltb-true}
 use Rattle.ptacl.proofs.Bools.{either}
 use Rattle.files.proofs.Framing.{whole-frame, refused-frame}
 use Rattle.files.proofs.Prefix.{Told, scan-at}
-use Rattle.files.proofs.PolicySteps.{Faulty, byte-laws}
+use Rattle.files.proofs.PolicySteps.{Faulty, byte-found, byte-laws}
 
-never : {A : Type 0} → _≡_ {A = ℕ} 0 1 → A
+pub never : {A : Type 0} → _≡_ {A = ℕ} 0 1 → A
 never e = absurd (omega arith)
 
 -- the node whose shape a byte's tag names
@@ -85,6 +86,13 @@ module _ (most : ℕ) (b : List ℕ) (sub : Subterms (Unit {0})) where
   seen-body nodes (stop number place) = refl
   seen-body nodes (node n next) = seen-below next (nodes + 1) (shape n)
 
+-- a node of that shape by its tag, and the place behind it
+pub record Tagged (b : List ℕ) (s : Sort) (at : ℕ) (g : ShapeC) (next : ℕ) : Type 0 where
+  pub its : Node s
+  pub byte : getD b at 0 ≡ tagOf its
+  pub so : shapeName (shape its) ≡ g
+  pub behind : next ≡ at + 1
+
 -- what is seen of a scan, and the limits that hold, by what is seen of its head
 module _ (most : ℕ) (b : List ℕ) (s : Sort) (left at nodes : ℕ) where
   abbrev pub under : Sort → ℕ → ℕ → Scanned
@@ -110,6 +118,22 @@ module _ (most : ℕ) (b : List ℕ) (s : Sort) (left at nodes : ℕ) where
           → (1 ≤ left) × (nodes < most) × (next ≤ length b)
       go (node n q) w e = let k : q ≡ next = cc in (w .shallow, w .few, omega (arith, w .inside))
       go (stop number place) w e = never (cc)
+
+  -- the byte there is the tag of a node of that shape
+  pub head-tagged : (g : ShapeC) (next : ℕ) → headOf (headAt most b s left at nodes) ≡ HeadC.Node g next → Tagged b s at g next
+  unfolding headAt
+  head-tagged g next = go (ltb at (length b)) (byteAt s (getD b at 0)) refl
+    where
+      within : (n : Node s) (x : Bool) → byteAt s (getD b at 0) ≡ tag n → headOf (cond x (node n (at + 1)) (stop (limitOf most left nodes) at)) ≡ HeadC.Node g next
+          → Tagged b s at g next
+      within n true q e = record { its = n; byte = byte-found s _ n q; so = cc; behind = cc }
+      within n false q e = never (cc)
+
+      go : (a : Bool) (x : Byte s) → byteAt s (getD b at 0) ≡ x → headOf (cond a (tagged (limitOf most left nodes) at x) (stop 4 (length b))) ≡ HeadC.Node g next
+          → Tagged b s at g next
+      go true (tag n) q e = within n (eqb (limitOf most left nodes) 0) q e
+      go true unknown q e = never (cc)
+      go false x q e = never (cc)
 
   pub stop-within : (number place : ℕ) → headOf (headAt most b s left at nodes) ≡ HeadC.Stop number place → (number ≤ 7) × (place ≤ length b)
   stop-within number place = go (headAt most b s left at nodes) (byte-laws most b .head-told s left tt at nodes)
@@ -147,6 +171,15 @@ unfolding pairAt
 small-pair b at nodes l n = either (ltb (at + 3) (length b))
     (λ e. rw e (omega (arith, ltb-true (at + 3) (length b) e), n)) (λ e. rw e (omega arith, omega arith))
 
+pub pair-done : (b : List ℕ) (at nodes : ℕ) {next k : ℕ} → seen (pairAt b at nodes) ≡ Scanned.Done next k → (next ≡ at + 4) × (at + 3 < length b)
+unfolding pairAt
+pair-done b at nodes {next} {k} = go (ltb (at + 3) (length b)) refl
+  where
+    go : (c : Bool) → ltb (at + 3) (length b) ≡ c → seen {A = Pair} (cond c (done (dec16 b at, dec16 b (at + 2)) (at + 4) nodes) (fault 4 (length b))) ≡ Scanned.Done next k
+        → (next ≡ at + 4) × (at + 3 < length b)
+    go true e f = (cc, ltb-true _ _ e)
+    go false e f = never (cc)
+
 -- a number made of what is seen
 pub scans : {s t : Scanned} {w : ℕ} → w ≡ wordOf s → Small s → s ≡ t → Scans t w
 scans e l f = record { word = e ∙ ap wordOf f; small = subst Small f l }
@@ -156,23 +189,34 @@ abbrev pub seenFinish : ℕ → Scanned → PolicyRead
 seenFinish len (Scanned.Done next nodes) = cond (ltb next len) (PolicyRead.Refused 8 next) PolicyRead.Accepted
 seenFinish len (Scanned.Fault number place) = PolicyRead.Refused number place
 
+finished : (len : ℕ) (x : Scan Policy) → seenFinish len (seen x) ≡ policyRead (finish len x)
+finished len (done p next nodes) = go (ltb next len)
+  where
+    go : (c : Bool) → cond c (PolicyRead.Refused 8 next) PolicyRead.Accepted ≡ policyRead (cond c (refused 8 next) (accepted p))
+    go true = refl
+    go false = refl
+finished len (fault number place) = refl
+
+pub finishes : {len w : ℕ} {s r : Scanned} {a : PolicyRead} → Tells w s → s ≡ r → a ≡ seenFinish len r → Finishes len w a
+finishes {len} h e f = record { back = λ x k. f ∙ ap (seenFinish len) (sym e ∙ h .back k) ∙ finished len x }
+
+-- it is accepted only if its body was read
+pub record Ended (x : Scanned) : Type 0 where
+  pub next : ℕ
+  pub nodes : ℕ
+  pub is : x ≡ Scanned.Done next nodes
+
+pub accepted-ended : (len : ℕ) (x : Scan Policy) → policyRead (finish len x) ≡ PolicyRead.Accepted → Ended (seen x)
+accepted-ended len (done p next nodes) e = record { next = next; nodes = nodes; is = refl }
+accepted-ended len (fault number place) e = never (cc)
+
 module _ (s : List ℕ) where
   pub file-refused : {n p : ℕ} → frameOf (unframed 1 s (accepted tt)) ≡ Frame.Refused n p
       → PolicyRead.Refused n p ≡ policyRead (readPolicy s)
   unfolding readPolicy
   file-refused e = sym (ap policyRead (refused-frame 1 s _ e))
 
-  pub file-seen : frameOf (unframed 1 s (accepted tt)) ≡ Frame.Whole → (x y : Scanned) → x ≡ seen (scan (inBytes 255 s) 32 policy tt 3 0) → x ≡ y
-      → seenFinish (length s) y ≡ policyRead (readPolicy s)
+  pub file-framed : frameOf (unframed 1 s (accepted tt)) ≡ Frame.Whole
+      → policyRead (finish (length s) (scan (inBytes 255 s) 32 policy tt 3 0)) ≡ policyRead (readPolicy s)
   unfolding readPolicy
-  file-seen w x y f g =
-      ap (seenFinish (length s)) (sym g ∙ f) ∙ go (scan (inBytes 255 s) 32 policy tt 3 0) ∙ sym (ap policyRead (whole-frame 1 s _ w))
-    where
-      over : (p : Policy) (next : ℕ) (c : Bool)
-          → cond c (PolicyRead.Refused 8 next) PolicyRead.Accepted ≡ policyRead (cond c (refused 8 next) (accepted p))
-      over p next true = refl
-      over p next false = refl
-
-      go : (x : Scan Policy) → seenFinish (length s) (seen x) ≡ policyRead (finish (length s) x)
-      go (done p next nodes) = over p next (ltb next (length s))
-      go (fault number place) = refl
+  file-framed w = sym (ap policyRead (whole-frame 1 s _ w))

@@ -52,7 +52,7 @@ found {s} (m ∷ ns) b n e = go (eqb b (tagOf m)) refl (found ns b n) e
     go true p f e = eqb-true _ _ p ∙ ap (λ (k : Node s). tagOf k) (untag e)
     go false p f e = f e
 
-byte-found : (s : Sort) (b : ℕ) (n : Node s) → byteAt s b ≡ tag n → b ≡ tagOf n
+pub byte-found : (s : Sort) (b : ℕ) (n : Node s) → byteAt s b ≡ tag n → b ≡ tagOf n
 unfolding byteAt
 byte-found s = found (nodesOf s)
 

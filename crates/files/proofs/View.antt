@@ -10,7 +10,7 @@ use lib.Seq.{take-all}
 use Rattle.ptacl.specs.Term.{Sort, target, policy, Term, Policy, nodes}
 use Rattle.ptacl.specs.Term.{Node, anAtom, aDeny, anAllow, aTargeted, aNot, aDefault, anAnd, tagOf, Shape, numbers, leaf, one, two, shape}
 use Rattle.ptacl.proofs.Shapes.{Case, by-shape}
-use Rattle.files.specs.Encoding.{bytes, enc, policyFile, framed, Bytes}
+use Rattle.files.specs.Encoding.{bytes, enc, policyFile, framed, Bytes, IsPolicy}
 use Rattle.files.specs.Refusal.{Read, accepted, refused, dec16}
 use Rattle.files.specs.ReadPolicy.{readPolicy}
 use Rattle.files.specs.Places.{At, Has, PolicyFile, BodyOf, Encoded}
@@ -192,6 +192,11 @@ behind-frame {s} f = record { right = λ p i. take-all (length s - 3) (drop 3 s)
 
 pub body-encoded : {s b : List ℕ} → (f : PolicyFile s) → BodyOf s b → Encoded b
 body-encoded f e = record { term = f .term; bytes = e .right (f .term) (f .file); few = f .file .fits .few }
+
+-- in its file a policy stands behind the frame
+pub file-at : {s : List ℕ} {p : Policy} → IsPolicy s p → At s 3 (enc p)
+unfolding policyFile framed
+file-at {p = p} f = record { rest = []; split = ap (drop 3) (f .file) ∙ sym (append-nil (enc p)) }
 
 pub body-at : {b : List ℕ} (p : Policy) → b ≡ enc p → At b 0 (enc p)
 body-at p e = record { rest = []; split = e ∙ sym (append-nil (enc p)) }

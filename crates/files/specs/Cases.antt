@@ -5,7 +5,7 @@ use Rattle.ptacl.specs.Request.{Request}
 use Rattle.ptacl.specs.Term.{Sort, target, policy, Policy, Shape, numbers, leaf, one, two, shape}
 use Rattle.files.specs.Refusal.{Read, accepted, refused}
 use Rattle.files.specs.Prefix.{Head, node, stop, Scan, done, fault}
-use Rattle.files.specs.ReadPolicy.{Byte, tag, unknown}
+use Rattle.files.specs.ReadPolicy.{Byte, tag, unknown, finish}
 use Rattle.files.specs.declared.policy.Sort.{Sort as SortC}
 use Rattle.files.specs.declared.policy.Shape.{Shape as ShapeC}
 use Rattle.files.specs.declared.policy.Byte.{Byte as ByteC}
@@ -63,6 +63,10 @@ pub record Tells (w : ℕ) (s : Scanned) : Type 0 where
 abbrev pub policyRead : Read Policy → PolicyRead
 policyRead (accepted p) = PolicyRead.Accepted
 policyRead (refused number place) = PolicyRead.Refused number place
+
+-- the answer for the file of that length whose body's scan a number tells
+pub record Finishes (len w : ℕ) (r : PolicyRead) : Type 0 where
+  pub back : (x : Scan Policy) → Scans (seen x) w → r ≡ policyRead (finish len x)
 
 abbrev pub frameOf : Read (Unit {0}) → Frame
 frameOf (accepted u) = Frame.Whole

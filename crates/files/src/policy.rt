@@ -6,7 +6,7 @@ ghost use Rattle.ptacl.specs.Term.{target, policy};
 ghost use Rattle.files.specs.Prefix.{scan};
 ghost use Rattle.files.specs.ReadPolicy.{byteAt, headAt, pairAt, inBytes, readPolicy};
 ghost use Rattle.files.specs.Places.{PolicyFile, BodyOf};
-ghost use Rattle.files.specs.Cases.{sortOf, byteOf, headOf, seen, wordOf, Small, Scans, Tells, policyRead};
+ghost use Rattle.files.specs.Cases.{sortOf, byteOf, headOf, seen, wordOf, Small, Scans, Tells, Finishes, policyRead};
 use crate::frame;
 use crate::frame::Frame;
 use crate::tags;
@@ -82,7 +82,7 @@ fn byte_at(sort: Sort, b: u8) -> Byte
     }
 }
 
-fn head_at(file: &[u8], sort: Sort, left: usize, at: usize, nodes: usize) -> Head
+pub fn head_at(file: &[u8], sort: Sort, left: usize, at: usize, nodes: usize) -> Head
     ensures { λ r. ⌜ r ≡ headOf (headAt 255 (now (file .entry)) (sortOf sort) left at nodes) ⌝ }
 {
     if file.len() <= at {
@@ -118,7 +118,7 @@ fn head_at(file: &[u8], sort: Sort, left: usize, at: usize, nodes: usize) -> Hea
 }
 
 // An atom's four bytes at `at`, with `nodes` nodes up to there; or 4 at the end.
-fn read_numbers(file: &[u8], at: usize, nodes: usize) -> Scanned
+pub fn read_numbers(file: &[u8], at: usize, nodes: usize) -> Scanned
     requires { ⌜ at ≤ length (now file) ⌝ }
     ensures { λ r. ⌜ r ≡ seen (pairAt (now (file .entry)) at nodes) ⌝ }
 {
@@ -136,7 +136,7 @@ fn read_numbers(file: &[u8], at: usize, nodes: usize) -> Scanned
 }
 
 // A scan as one number: a call hands it back in a register, where it would copy an enum at each return.
-fn word_of(scanned: Scanned) -> u64
+pub fn word_of(scanned: Scanned) -> u64
     requires { ⌜ Small scanned ⌝ }
     ensures { λ r. ⌜ r ≡ wordOf scanned ⌝ }
 {
@@ -146,7 +146,7 @@ fn word_of(scanned: Scanned) -> u64
     }
 }
 
-fn scanned_of(word: u64) -> Scanned
+pub fn scanned_of(word: u64) -> Scanned
     requires { ⌜ word < 8589934592 ⌝ }
     ensures { λ r. ⌜ Tells word r ⌝ }
 {
@@ -185,13 +185,12 @@ fn read_term(file: &[u8], sort: Sort, left: usize, at: usize, nodes: usize) -> u
     }
 }
 
-pub fn read_policy(file: &[u8]) -> PolicyRead
-    ensures { λ r. ⌜ r ≡ policyRead (readPolicy (now (file .entry))) ⌝ }
+// The answer for a file whose body's scan has this word.
+pub fn finish(file: &[u8], word: u64) -> PolicyRead
+    requires { ⌜ word < 8589934592 ⌝ }
+    ensures { λ r. ⌜ Finishes (length (now (file .entry))) word r ⌝ }
 {
-    if let Frame::Refused { number, place } = frame::unframe(file, 1) {
-        return PolicyRead::Refused { number, place };
-    }
-    match scanned_of(read_term(file, Sort::Policy, 32, 3, 0)) {
+    match scanned_of(word) {
         Scanned::Done { next, nodes: _ } => {
             if next < file.len() {
                 PolicyRead::Refused {
@@ -204,6 +203,15 @@ pub fn read_policy(file: &[u8]) -> PolicyRead
         }
         Scanned::Fault { number, place } => PolicyRead::Refused { number, place },
     }
+}
+
+pub fn read_policy(file: &[u8]) -> PolicyRead
+    ensures { λ r. ⌜ r ≡ policyRead (readPolicy (now (file .entry))) ⌝ }
+{
+    if let Frame::Refused { number, place } = frame::unframe(file, 1) {
+        return PolicyRead::Refused { number, place };
+    }
+    finish(file, read_term(file, Sort::Policy, 32, 3, 0))
 }
 
 // The body of a policy file that was accepted. Every later pass is lent this part, so that only the reader knows where it begins.

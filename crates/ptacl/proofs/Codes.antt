@@ -1,15 +1,15 @@
 -- The code of a set and the set of a code; a rule over codes, tested at all of the eight, holds of every number.
-use Prim.Native.Nat.{ℕ, _/_, _%_}
+use Prim.Native.Nat.{ℕ, _/_, _%_, _<_}
 use mathlib.Core.Path.{_≡_, refl, ap, _∙_}
 use mathlib.Core.Bool.{Bool, true}
 use native.Mathlib.Omega.{arith}
-use lib.Dec.{eqb}
-use borrow.Author.Tests.{eqb-true}
-use Rattle.ptacl.specs.Value.{v1}
-use Rattle.ptacl.specs.Values.{Values, isEmpty, only, code, setOf}
+use lib.Dec.{eqb, ltb}
+use borrow.Author.Tests.{eqb-true, ltb-true}
+use Rattle.ptacl.specs.Value.{Value, v1}
+use Rattle.ptacl.specs.Values.{Values, isEmpty, only, single, each, each2, code, setOf}
 use Rattle.ptacl.specs.Pairs.{allBelow}
 use Rattle.ptacl.proofs.Bools.{below-at}
-use Rattle.ptacl.proofs.Finite.{sets, by}
+use Rattle.ptacl.proofs.Finite.{values, sets, by}
 
 pub code-set : (s : Values) → setOf (code s) ≡ s
 code-set s = λ i. record {
@@ -26,6 +26,20 @@ empty-code = by sets _ _ refl
 pub allow-code : (s : Values) → only v1 s ≡ eqb (code s) 1
 unfolding only
 allow-code = by sets _ _ refl
+
+pub code-small : {c : ℕ} (s : Values) → c ≡ code s → c < 8
+code-small s e = rw e (ltb-true _ _ (sets .at (λ s. ltb (code s) 8) refl s))
+
+-- an operation that is right on the set of each value alone, which is computed
+pub of-single : (f : Value → Value) → values .all (λ v. eqb (code (each f (single v))) (code (single (f v)))) ≡ true
+    → (v : Value) → code (each f (single v)) ≡ code (single (f v))
+of-single f h v = eqb-true _ _ (values .at (λ v. eqb (code (each f (single v))) (code (single (f v)))) h v)
+
+pub of-singles : (f : Value → Value → Value)
+    → values .all (λ v. values .all (λ w. eqb (code (each2 f (single v) (single w))) (code (single (f v w))))) ≡ true
+    → (v w : Value) → code (each2 f (single v) (single w)) ≡ code (single (f v w))
+of-singles f h v w = eqb-true _ _ (values .at (λ w. eqb (code (each2 f (single v) (single w))) (code (single (f v w))))
+    (values .at (λ v. values .all (λ w. eqb (code (each2 f (single v) (single w))) (code (single (f v w))))) h v) w)
 
 -- only the last three bits say what set it is
 low-bits : (c : ℕ) → setOf (c % 8) ≡ setOf c

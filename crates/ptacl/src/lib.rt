@@ -1,7 +1,7 @@
 // PTaCL: the three values of a target, and decision sets.
 ghost use mathlib.Core.Path.{_≡_};
 ghost use Rattle.ptacl.specs.Value.{notV, defaultV, andV};
-ghost use Rattle.ptacl.specs.Values.{single, union, each, each2, under, code, setOf};
+ghost use Rattle.ptacl.specs.Values.{single, union, each, each2, code, setOf, Targeted};
 ghost use Rattle.ptacl.specs.Cases.{valueOf};
 
 // What a target comes to.
@@ -9,42 +9,6 @@ pub enum TargetValue {
     One,
     Zero,
     Undefined,
-}
-
-impl TargetValue {
-    pub fn not(self) -> TargetValue
-        ensures { λ r. ⌜ valueOf r ≡ notV (valueOf self) ⌝ }
-    {
-        match self {
-            TargetValue::One => TargetValue::Zero,
-            TargetValue::Zero => TargetValue::One,
-            TargetValue::Undefined => TargetValue::Undefined,
-        }
-    }
-
-    pub fn optional(self) -> TargetValue
-        ensures { λ r. ⌜ valueOf r ≡ defaultV (valueOf self) ⌝ }
-    {
-        match self {
-            TargetValue::One => TargetValue::One,
-            TargetValue::Zero => TargetValue::Zero,
-            TargetValue::Undefined => TargetValue::Zero,
-        }
-    }
-
-    pub fn and(self, other: TargetValue) -> TargetValue
-        ensures { λ r. ⌜ valueOf r ≡ andV (valueOf self) (valueOf other) ⌝ }
-    {
-        match self {
-            TargetValue::One => other,
-            TargetValue::Zero => TargetValue::Zero,
-            TargetValue::Undefined => match other {
-                TargetValue::One => TargetValue::Undefined,
-                TargetValue::Zero => TargetValue::Zero,
-                TargetValue::Undefined => TargetValue::Undefined,
-            },
-        }
-    }
 }
 
 // What a policy comes to, a set of the three values as its code: 1 for allow, plus 2 for deny, plus 4 for undefined.
@@ -178,16 +142,18 @@ impl DecisionSet {
         }
     }
 
-    // What a policy that is targeted comes to, `self` being its body's set.
-    pub fn targeted(self, target: TargetValue) -> DecisionSet
-        ensures { λ r. ⌜ r .code ≡ code (under (valueOf target) (setOf (self .code))) ⌝ }
+    // What a policy that is targeted comes to: `self` is its body's set, `target` the set of its target's value alone.
+    pub fn targeted(self, target: DecisionSet) -> DecisionSet
+        ensures { λ r. ⌜ Targeted (target .code) (self .code) (r .code) ⌝ }
     {
-        match target {
-            TargetValue::One => DecisionSet {
+        if target.code == 1 {
+            return DecisionSet {
                 code: self.code % 8,
-            },
-            TargetValue::Zero => DecisionSet::UNDEFINED,
-            TargetValue::Undefined => self.union(DecisionSet::UNDEFINED),
+            };
         }
+        if target.code == 2 {
+            return DecisionSet::UNDEFINED;
+        }
+        self.union(DecisionSet::UNDEFINED)
     }
 }

@@ -15,11 +15,12 @@ use Rattle.files.specs.Refusal.{Read, accepted, refused}
 use Rattle.files.specs.ReadPolicy.{readPolicy}
 use Rattle.files.specs.ReadRequest.{readRequest}
 use Rattle.files.specs.Places.{At, PolicyFile, BodyOf, Encoded, numbersOf}
-use Rattle.files.specs.Cases.{policyRead}
+use Rattle.files.specs.Cases.{policyRead, requestRead}
 use Rattle.files.specs.declared.policy.PolicyRead.{PolicyRead}
+use Rattle.files.specs.declared.request.RequestRead.{RequestRead}
 use Rattle.files.proofs.Framing.{lent-bytes}
 use Rattle.files.proofs.PolicyExact.{policy-exact}
-use Rattle.files.proofs.RequestExact.{request-exact, numbers-request}
+use Rattle.files.proofs.RequestExact.{request-exact, request-accepted, numbers-request}
 use Rattle.files.proofs.View.{policy-file, body-encoded, body-at}
 use Rattle.evaluate.specs.Ordered.{OrderedFile}
 use Rattle.sinkheron.specs.declared.FilesRead.{FilesRead}
@@ -60,6 +61,9 @@ request-sent {s} {q} b e =
       pairs = n;
       ordered = record { long = omega (arith, ap length (i .file)); ordered = record { rises = rw n (i .fits .ordered) } };
     }
+
+pub request-taken : {s : List ℕ} → ((i : ℕ) → Fits w8 (getD s i 0)) → requestRead (readRequest s) ≡ RequestRead.Accepted → Sent s
+request-taken b e = request-sent b (request-accepted (readRequest _) e .1)
 
 same-refusal : {A : Type 0} {m b n at : ℕ} → FilesRead.Refused m b ≡ FilesRead.Refused n at → _≡_ {A = Read A} (refused m b) (refused n at)
 same-refusal e = cc

@@ -9,6 +9,7 @@ ghost use Rattle.sinkheron.specs.ListPairs as L;
 ghost use Rattle.sinkheron.specs.NormalForm as N;
 ghost use Rattle.sinkheron.specs.Certify as C;
 ghost use Rattle.sinkheron.specs.Search as S;
+use evaluate::single::Evaluation;
 use files::policy::PolicyRead;
 use files::request::RequestRead;
 use ptacl::DecisionSet;
@@ -74,19 +75,25 @@ fn read_files(policy: &[u8], request: &[u8]) -> FilesRead
 pub fn decide(policy: &[u8], request: &[u8]) -> Decision
     ensures { λ r. ⌜ D.Decides (now (policy .entry)) (now (request .entry)) (D.answerOf r) tt ⌝ }
 {
-    if let FilesRead::Refused { number, place } = read_files(policy, request) {
-        return Decision::Refused { number, place };
-    }
-    let body = files::policy::body(policy);
-    let answer = evaluate::single::eval_policy(body, 0, 255, request);
-    let set = answer.set;
-    if set.code == 0 {
-        return Decision::Refused {
-            number: 14,
-            place: 0,
+    // With the request read first, the policy is evaluated while it is read. Its refusals still come before the request's.
+    if let RequestRead::Refused { number, place } = files::request::read_request(request, 21) {
+        return match files::policy::read_policy(policy) {
+            PolicyRead::Refused { number, place } => Decision::Refused { number, place },
+            PolicyRead::Accepted => Decision::Refused { number, place },
         };
     }
-    Decision::Decided(set)
+    match evaluate::single::eval_policy(policy, request) {
+        Evaluation::Refused { number, place } => Decision::Refused { number, place },
+        Evaluation::Set(set) => {
+            if set.code == 0 {
+                return Decision::Refused {
+                    number: 14,
+                    place: 0,
+                };
+            }
+            Decision::Decided(set)
+        }
+    }
 }
 
 // The policy's pairs at the front of `pairs`, each name * 65536 + value.

@@ -20,7 +20,7 @@ use Rattle.files.specs.Places.{Has}
 use Rattle.files.proofs.View.{body-at}
 use Rattle.files.proofs.View.{Ends}
 use Rattle.evaluate.specs.Evaluated.{Evaluated}
-use Rattle.evaluate.proofs.Nodes.{act-told, act2-told, is-atom, is-deny, is-allow, is-targeted, is-not, is-default, is-and}
+use Rattle.evaluate.proofs.Nodes.{act-told, act2-told, of-pair, is-atom, is-deny, is-allow, is-targeted, is-not, is-default, is-and}
 use Rattle.table.specs.declared.row.Row.{Row}
 use Rattle.table.specs.declared.judge.TargetRow.{TargetRow}
 use Rattle.table.specs.declared.judge.PolicyRow.{PolicyRow}
@@ -57,7 +57,7 @@ module _ {b : List ℕ} {i : ℕ} {pairs rows : List ℕ} where
   pub atom-judged : (t : TargetRow) {x : ℕ} → Bytes b → getD b i 0 ≡ tagOf anAtom → x ≡ packed (dec16 b (i + 1), dec16 b (i + 1 + 2))
       → ValuesAre t (λ j. atomAt (asked pairs rows j) (x / 65536) (x % 65536)) → t .next ≡ i + 5 → TargetRows b i pairs rows t
   atom-judged t bs e p v n = record {
-    held = λ j h. subst (λ m. Evaluated target b i (asked pairs rows j) (valueAt t j) m) (sym n) (is-atom bs e p (v .at j h));
+    held = λ j h. subst (λ m. Evaluated target b i (asked pairs rows j) (valueAt t j) m) (sym n) (is-atom e (of-pair b (i + 1) (asked pairs rows j) bs p (v .at j h)));
   }
 
   module _ (t : TargetRow) (r : Judged b (i + 1) pairs rows t) where

@@ -1,14 +1,13 @@
--- At each `return` the frame, and behind it what is seen of the scan, say which case of `readPolicy` holds.
+-- At each `return` the frame, and behind it the scan, say which case of `readPolicy` holds.
 use mathlib.Core.Path.{_≡_, sym, _∙_}
-use borrow.Author.Tests.{lt-ltb, le-ltb}
 use Rattle.files.specs.Refusal.{unframed, accepted}
 use Rattle.ptacl.specs.Term.{policy}
 use Rattle.files.specs.Prefix.{scan}
 use Rattle.files.specs.ReadPolicy.{inBytes}
-use Rattle.files.specs.Cases.{frameOf, seen}
+use Rattle.files.specs.Cases.{frameOf}
 use Rattle.files.specs.declared.frame.Frame.{Frame}
 use Rattle.files.proofs.Framing.{lent-bytes, whole-file, whole-short}
-use Rattle.files.proofs.PolicySeen.{file-refused, file-seen, word-below}
+use Rattle.files.proofs.PolicySeen.{file-refused, file-framed, word-below}
 use borrow.Author.Needs.{needs}
 use Rattle.files.proofs.policy.read_policy.Statement.{statement}
 use Rattle.files.proofs.policy.read_policy.Tie as tie
@@ -19,22 +18,8 @@ returns c = file-refused _ (sym (c .before .before .before .unframe .ensures) �
 whole : (c : tie.After-enum-told) → frameOf (unframed 1 (c .before .before .before .before .args .file .now) (accepted tt)) ≡ Frame.Whole
 whole c = sym (c .before .before .unframe .ensures) ∙ c .enum-told .given .1
 
--- what the word tells is what is seen of the scan
-told : (c : tie.After-scanned-of) → c .scanned-of .result ≡ seen (scan (inBytes 255 (c .before .before .before .before .before .before .args .file .now)) 32 policy tt 3 0)
-told c = c .scanned-of .ensures .back (c .before .read-term .ensures)
-
 returns-2 : tie.Need-returns-2
-returns-2 c =
-    let d = c .before .before .before .before in
-    rw (lt-ltb _ _ (c .if1 .taken)) at (file-seen _ (whole (c .before .before .before .before .before .before)) _ _ (told d) (c .before .before .next .given .1))
-
-returns-3 : tie.Need-returns-3
-returns-3 c =
-    let d = c .before .before .before .before in
-    rw (le-ltb _ _ (c .if1 .left)) at (file-seen _ (whole (c .before .before .before .before .before .before)) _ _ (told d) (c .before .before .next .given .1))
-
-returns-4 : tie.Need-returns-4
-returns-4 c = file-seen _ (whole (c .before .before .before .before .before)) _ _ (told (c .before .before .before)) (c .before .number2 .given .1)
+returns-2 c = c .finish .ensures .back (scan (inBytes 255 (c .before .before .before .before .before .before .args .file .now)) 32 policy tt 3 0) (c .before .read-term .ensures) ∙ file-framed _ (whole (c .before .before))
 
 pub read-policy-spec : {M : Type 1} → statement M
 read-policy-spec =
@@ -46,8 +31,4 @@ read-policy-spec =
     (λ c. search needs)
     (λ c κs. whole-short (whole-file 1 _ (whole c)) (lent-bytes (c .before .before .before .shared-slice-known .given)))
     (λ c κs. word-below (c .read-term .ensures))
-    (λ c. search needs)
-    (λ c. search needs)
-    returns-2
-    returns-3
-    returns-4)
+    returns-2)
