@@ -73,8 +73,8 @@ pub record Searching (b pairs t : List ℕ) (rows m : ℕ) : Type 0 where
   pub judged : Filled strict b pairs t rows
   pub none : (p : Policy) → b ≡ enc p → NoneBefore (Exposure p (map unpacked pairs)) m
 
-pub searching-start : {b pairs t : List ℕ} → length t ≡ 1024 → Searching b pairs t 0 0
-searching-start e = record { judged = filled-start e; none = λ p h. before-start }
+pub searching-start : {b pairs t : List ℕ} → Searching b pairs t 0 0
+searching-start = record { judged = filled-start; none = λ p h. before-start }
 
 -- the row of m is judged when m is its first subset
 module _ {b pairs t : List ℕ} {m : ℕ} (s : Searching b pairs t ((m + 511) / 512) m) where

@@ -1,14 +1,20 @@
 -- Exposures read from the table of allowed subsets of k pairs.
-use Prim.Native.Nat.{ℕ, _+_, _*_, _^_, _<_}
+use Prim.Native.Nat.{ℕ, _+_, _*_, _%_, _^_, _≤_, _<_}
 use mathlib.Core.Path.{_≡_}
 use mathlib.Core.Bool.{Bool, true, false, _&&_, not}
 use mathlib.Core.List.{List, map}
+use lib.ListN.{length}
 use Rattle.ptacl.specs.Term.{Policy}
 use Rattle.ptacl.specs.Pairs.{unpacked}
 use Rattle.ptacl.specs.Exposure.{Removal, bit, Exposure, First}
 use Rattle.files.specs.Encoding.{enc}
 use Rattle.table.specs.Allowed.{bitAt}
 use Rattle.search.specs.declared.Hit.{Hit}
+
+-- a table of whole rows with a bit for each subset of k pairs
+pub record Room (k : ℕ) (t : List ℕ) : Type 0 where
+  pub all : 2 ^ k ≤ 64 * length t
+  pub whole : length t % 8 ≡ 0
 
 -- (m, i) is an exposure among k pairs
 pub record HitAt (allowed : ℕ → Bool) (r : Removal) (k m i : ℕ) : Type 0 where

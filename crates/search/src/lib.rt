@@ -7,7 +7,7 @@ ghost use Rattle.ptacl.specs.Exposure.{subset, onePair};
 ghost use Rattle.ptacl.specs.Pairs.{unpacked};
 ghost use Rattle.files.specs.Places.{Encoded};
 ghost use Rattle.files.specs.Memory.{over};
-ghost use Rattle.search.specs.Hits.{FindsIn, LessWord, HitWord, QuietIf};
+ghost use Rattle.search.specs.Hits.{Room, FindsIn, LessWord, HitWord, QuietIf};
 ghost use Rattle.search.specs.Found.{twoFiles, FoundIn};
 use table::row::ONES;
 
@@ -29,8 +29,8 @@ fn pow2(k: usize) -> usize
 }
 
 // For each of the 64 subsets from 64 * w on that hold pair i: whether the subset without it is allowed.
-fn less(allowed: &[u64; 1024], w: usize, i: usize) -> u64
-    requires { ⌜ (w < 1024) × (i < 16) ⌝ }
+fn less(allowed: &[u64], w: usize, i: usize) -> u64
+    requires { ⌜ (w < length (now allowed)) × (i < 16) ⌝ }
     ensures { λ r. ⌜ LessWord (now (allowed .entry)) onePair w i r ⌝ }
 {
     let p = pow2(i);
@@ -42,16 +42,16 @@ fn less(allowed: &[u64; 1024], w: usize, i: usize) -> u64
 }
 
 // Which of these subsets m are an exposure (m, i).
-fn hits(allowed: &[u64; 1024], w: usize, i: usize) -> u64
-    requires { ⌜ (w < 1024) × (i < 16) ⌝ }
+fn hits(allowed: &[u64], w: usize, i: usize) -> u64
+    requires { ⌜ (w < length (now allowed)) × (i < 16) ⌝ }
     ensures { λ r. ⌜ HitWord (now (allowed .entry)) onePair w i r ⌝ }
 {
     (table::holding(w, i) & less(allowed, w, i)) & (allowed[w] ^ ONES)
 }
 
 // Whether none of them is an exposure: then the search need not look at each.
-fn is_quiet(allowed: &[u64; 1024], w: usize, k: usize) -> bool
-    requires { ⌜ (w < 1024) × (k ≤ 16) ⌝ }
+fn is_quiet(allowed: &[u64], w: usize, k: usize) -> bool
+    requires { ⌜ (w < length (now allowed)) × (k ≤ 16) ⌝ }
     ensures { λ r. ⌜ QuietIf (now (allowed .entry)) onePair k w r ⌝ }
 {
     let mut i = 0;
@@ -64,33 +64,33 @@ fn is_quiet(allowed: &[u64; 1024], w: usize, k: usize) -> bool
     true
 }
 
-// The smallest m of an exposure, and for it the smallest i. The next 512 subsets are judged when the first of them is met.
-pub fn find(body: &[u8], pairs: &[u32]) -> Hit
-    requires { ⌜ Encoded (now body) × (length (now pairs) ≤ 16) ⌝ }
+// The smallest m of an exposure, and for it the smallest i. The next 512 subsets are judged when the first of them is
+// met, in a table that has room for all.
+fn find_in(body: &[u8], pairs: &[u32], allowed: &mut [u64]) -> Hit
+    requires { ⌜ Encoded (now body) × (length (now pairs) ≤ 16) × Room (length (now pairs)) (now allowed) ⌝ }
     ensures { λ r. ⌜ FindsIn (now (body .entry)) (now (pairs .entry)) r ⌝ }
 {
     let k = pairs.len();
     let end = pow2(k);
-    let mut allowed = [0u64; 1024];
     let mut m = 0;
     'subsets: loop {
         if m >= end {
             break 'subsets Hit::Nothing;
         }
         if m % 512 == 0 {
-            table::fill_row(body, pairs, &mut allowed, m / 512);
+            table::fill_row(body, pairs, allowed, m / 512);
         }
         if m % 64 == 0 {
-            if is_quiet(&allowed, m / 64, k) {
+            if is_quiet(allowed, m / 64, k) {
                 m += 64;
                 continue 'subsets;
             }
         }
-        if !table::entry(&allowed, m) {
+        if !table::entry(allowed, m) {
             let mut i = 0;
             while i < k {
                 if (m >> i) % 2 == 1 {
-                    if table::entry(&allowed, m - pow2(i)) {
+                    if table::entry(allowed, m - pow2(i)) {
                         break 'subsets Hit::At { m, i };
                     }
                 }
@@ -99,6 +99,19 @@ pub fn find(body: &[u8], pairs: &[u32]) -> Hit
         }
         m += 1;
     }
+}
+
+// The first exposure. Up to 12 pairs a table of 64 words suffices: clearing a larger one would cost more than the search of a small policy.
+pub fn find(body: &[u8], pairs: &[u32]) -> Hit
+    requires { ⌜ Encoded (now body) × (length (now pairs) ≤ 16) ⌝ }
+    ensures { λ r. ⌜ FindsIn (now (body .entry)) (now (pairs .entry)) r ⌝ }
+{
+    if pairs.len() <= 12 {
+        let mut small = [0u64; 64];
+        return find_in(body, pairs, &mut small);
+    }
+    let mut large = [0u64; 1024];
+    find_in(body, pairs, &mut large)
 }
 
 // The pairs of the subset numbered m, at the front of `out`: how many there are.

@@ -4,32 +4,31 @@ use mathlib.Core.Path.{_≡_, refl, sym, ap, ap₂, _∙_}
 use mathlib.Core.Bool.{cond}
 use mathlib.Core.List.{List, [], _∷_, map}
 use native.Mathlib.Omega.{arith}
-use lib.ListN.{length, getD, set}
-use lib.Seq.{getD-set-same, getD-set-other}
+use lib.ListN.{length, getD}
 use borrow.Author.Count.{below-more}
 use Rattle.ptacl.specs.Pairs.{unpacked}
 use Rattle.ptacl.specs.Exposure.{bit, subset}
 use Rattle.ptacl.proofs.Bits.{bit-zero, bit-suc}
 use Rattle.ptacl.proofs.Subset.{subset-map}
-use Rattle.table.specs.Rows.{laneOf, request, PairWord, PairRows}
+use Rattle.table.specs.declared.row.Row.{Row}
+use Rattle.table.specs.Rows.{words, lane, RowIs, laneOf, request, PairWord, PairRows}
 
--- what holds of each entry below i holds of one more after a store at i
-pub below-set : (P : ℕ → ℕ → Type 0) (l : List ℕ) (i x : ℕ) → i < length l → ((k : ℕ) → k < i → P k (getD l k 0)) → P i x
-    → (k : ℕ) → k < i + 1 → P k (getD (set l i x) k 0)
-below-set P l i x r h e =
-    below-more (λ k. P k (getD (set l i x) k 0)) i (λ k g. rw (getD-set-other l i k x 0 (λ (z : k ≡ i). omega arith)) (h k g))
-    (rw (getD-set-same l i x 0 r) e)
+-- pair i's row by its words
+module _ (w i : ℕ) where
+  word-lane : (j : ℕ) {x : ℕ} → PairWord (w * 8 + j / 64) i x → bit x (j % 64) ≡ bit (512 * w + j) i
+  word-lane j e = e .pattern (j % 64) (omega arith) ∙ ap (λ m. bit m i) (omega arith)
 
-pub rows-law : {count w : ℕ} {rows : List ℕ} → ((t : ℕ) → t < 8 * count → PairWord (w * 8 + t % 8) (t / 8) (getD rows t 0))
-    → PairRows count w rows
-unfolding laneOf
-rows-law {w = w} e = record {
-  pattern = λ i j h g.
-      let t = i * 8 + j / 64 in
-      let n : 64 * (w * 8 + t % 8) + j % 64 ≡ 512 * w + j = omega arith in
-      let k : t / 8 ≡ i = omega arith in
-      e t (omega arith) .pattern (j % 64) (omega arith) ∙ ap₂ bit n k;
-}
+  pub words-law : {r : Row} → PairWord (w * 8 + 0) i (r .w0) → PairWord (w * 8 + 1) i (r .w1) → PairWord (w * 8 + 2) i (r .w2)
+      → PairWord (w * 8 + 3) i (r .w3) → PairWord (w * 8 + 4) i (r .w4) → PairWord (w * 8 + 5) i (r .w5)
+      → PairWord (w * 8 + 6) i (r .w6) → PairWord (w * 8 + 7) i (r .w7) → RowIs r (λ j. bit (512 * w + j) i)
+  unfolding lane
+  words-law {r} e0 e1 e2 e3 e4 e5 e6 e7 =
+      let more = below-more (λ k. PairWord (w * 8 + k) i (getD (words r) k 0)) in
+      let all = more 7 (more 6 (more 5 (more 4 (more 3 (more 2 (more 1 (more 0 (λ k h. absurd (omega arith)) e0) e1) e2) e3) e4) e5) e6) e7 in
+      record { at = λ j h. word-lane j (all (j / 64) (omega arith)) }
+
+  pub same-law : {r : Row} (x : ℕ) → ((v : ℕ) → PairWord v i x) → RowIs r (λ j. bit x (j % 64)) → RowIs r (λ j. bit (512 * w + j) i)
+  same-law x e s = record { at = λ j h. s .at j h ∙ word-lane j (e (w * 8 + j / 64)) }
 
 request-from : (pairs rows : List ℕ) (i j m : ℕ) → ((n : ℕ) → n < length pairs → laneOf rows (i + n) j ≡ bit m n)
     → request pairs rows i j ≡ subset pairs m

@@ -3,7 +3,7 @@ use Prim.Native.Nat.{ℕ, _*_, _/_, _%_, _<_}
 use mathlib.Core.Path.{_≡_}
 use mathlib.Core.Bool.{Bool}
 use mathlib.Core.List.{List, map}
-use lib.ListN.{length, getD}
+use lib.ListN.{getD}
 use Rattle.ptacl.specs.Request.{Pair}
 use Rattle.ptacl.specs.Term.{Policy}
 use Rattle.ptacl.specs.Meaning.{eval}
@@ -21,5 +21,4 @@ bitAt t m = bit (getD t (m / 64) 0) (m % 64)
 
 -- the table is right at the subsets of the rows before w, 512 to a row, for the policy whose body this is and these pairs
 pub record Filled (g : Reading) (b pairs t : List ℕ) (w : ℕ) : Type 0 where
-  pub size : length t ≡ 1024
   pub right : (p : Policy) → b ≡ enc p → (m : ℕ) → m < 512 * w → bitAt t m ≡ allowed g p (map unpacked pairs) m

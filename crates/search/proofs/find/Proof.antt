@@ -1,132 +1,29 @@
--- The outer loop's invariant: the rows met so far are judged, and no subset before m exposes; the inner loop's: none at m before i. So the hit
--- that is carried out is the first.
-use Prim.Native.Nat.{_+_, _-_, _/_, _≤_}
-use mathlib.Core.Path.{sym, _∙_}
-use mathlib.Core.Logic.{⊎-elim}
+-- The table that is lent has a bit for each subset.
+use mathlib.Core.Path.{refl}
 use native.Mathlib.Omega.{arith}
-use lib.Pow.{pow-mono}
 use lib.ListN.{length}
+use lib.Pow.{pow-mono}
 use borrow.Author.Needs.{needs}
-use borrow.Author.Tests.{eqb-true, eq-eqb, not-true, not-false}
-use Rattle.ptacl.specs.Exposure.{onePair}
-use Rattle.ptacl.proofs.Bools.{clash}
-use Rattle.ptacl.proofs.Bits.{bit-le}
-use Rattle.table.specs.Allowed.{bitAt}
-use Rattle.search.specs.Hits.{HitAt, Finds}
-use Rattle.search.proofs.Steps.{NoneAt, at-start, at-more, at-end, exposed-subset, to-table, from-table}
-use Rattle.search.proofs.Steps.{Searching, searching-start, row-due, row-new, row-there, searching-more, searching-quiet}
 use Rattle.search.proofs.find.Statement.{statement}
 use Rattle.search.proofs.find.Tie as tie
 
-abbrev Inv-loop : tie.InvT-loop
-Inv-loop body pairs k end allowed m i₀ i = NoneAt (HitAt (bitAt allowed) onePair k) m i
+find-in-requires : tie.Need-find-in-requires
+find-in-requires c κs =
+    let s = c .before .before .before .before in
+    (s .pre .0, s .pre .1, record { all = pow-mono {i = length (s .args .pairs .now)} {j = 12} (omega arith); whole = refl })
 
-abbrev μ-loop : tie.MeasureT-loop
-μ-loop body pairs k end allowed m i₀ i = k - i
-
-abbrev Inv-subsets : tie.InvT-subsets
-Inv-subsets body pairs k end allowed₀ m₀ allowed m = (end ≤ 65536) × Searching body pairs allowed ((m + 511) / 512) m
-
-abbrev μ-subsets : tie.MeasureT-subsets
-μ-subsets body pairs k end allowed₀ m₀ allowed m = end - m
-
--- behind the test for a new row, the row of m is judged
-ready : (c : tie.Joined2 Inv-loop μ-loop Inv-subsets μ-subsets) →
-    let a = c .before .before .before .before .before .before .args in
-    let m = c .before .before .subsets .m in
-    Searching (a .body .now) (a .pairs .now) (c .if2 .allowed) (m / 512 + 1) m
-ready c =
-    let v = c .before .before .subsets .inv .1 in
-    ⊎-elim (λ w. rw (w .3) (row-new v (w .2 .ensures))) (λ w. rw (w .1) (row-there v (w .0 .left))) (c .if2 .came)
-
-subsets-holds : tie.Need-subsets-holds Inv-loop μ-loop Inv-subsets μ-subsets
-subsets-holds c = (omega (arith, c .pow2 .ensures, pow-mono {i = length (c .before .before .before .args .pairs .now)} {j = 16} (omega (arith, c .before .before .before .pre .1))), searching-start (search needs))
-
-fill-row-requires : tie.Need-fill-row-requires Inv-loop μ-loop Inv-subsets μ-subsets
-fill-row-requires c κs =
-    let v = c .before .before .before .subsets .inv in
-    let p = c .before .before .before .before .before .before .before .pre in
-    (p .0, p .1, omega (arith, v .0, c .before .before .if1 .left), row-due (v .1) (c .before .if2 .taken))
-
-subsets-again : tie.Need-subsets-again Inv-loop μ-loop Inv-subsets μ-subsets
-subsets-again c =
-    let r = ready (c .before .before .before .before) in
-    (c .before .before .before .before .before .before .subsets .inv .0, searching-quiet r (c .before .before .before .if3 .taken) (rw (c .if4 .taken) at (c .before .is-quiet .ensures)))
-
-loop-holds : tie.Need-loop-holds Inv-loop μ-loop Inv-subsets μ-subsets
-loop-holds c = at-start
-
-sub-entry : tie.Need-sub-entry Inv-loop μ-loop Inv-subsets μ-subsets
-sub-entry c = omega (arith, c .pow22 .ensures, bit-le (c .before .before .before .before .before .before .before .before .before .before .before .subsets .m) (c .before .before .before .before .loop .i) (eq-eqb _ _ (c .before .before .if6 .taken)))
-
-loop-again : tie.Need-loop-again Inv-loop μ-loop Inv-subsets μ-subsets
-loop-again c = at-more (c .before .before .loop .inv) (λ e. ⊎-elim
-    (λ w. clash (e .smaller) (rw (← w .2 .ensures) (sym (w .3 .ensures) ∙ w .4 .left)))
-    (λ w. w .left (eqb-true _ _ (e .taken)))
-    (c .if6 .came))
-
-subsets-again-2 : tie.Need-subsets-again-2 Inv-loop μ-loop Inv-subsets μ-subsets
-subsets-again-2 c =
-    let r = ready (c .before .before .before .before) in (
-      c .before .before .before .before .before .before .subsets .inv .0,
-      searching-more r (⊎-elim
-          (λ w. at-end (w .1 .inv) (w .2 .left))
-          (λ w n e. clash (sym (c .before .entry .ensures) ∙ not-false _ (w .left)) (e .larger))
-          (c .if5 .came)),
-    )
-
-returns : tie.Need-returns Inv-loop μ-loop Inv-subsets μ-subsets
-returns c =
-    let a = c .before .before .before .before .before .args in
-    record {
-      right = λ p h. Finds.nothing (λ n i e.
-          c .before .subsets .inv .1 .none p h .none n
-          (omega (arith, exposed-subset (a .pairs .now) e, c .before .before .pow2 .ensures, c .if1 .taken)) i e);
-    }
-
-returns-2 : tie.Need-returns-2 Inv-loop μ-loop Inv-subsets μ-subsets
-returns-2 c =
-    let l = c .before .before .before .before .before .before .before .before .before .before .before .before .before .subsets in
-    let r = ready (c .before .before .before .before .before .before .before .before .before .before .before) in
-    record {
-      right = λ p h. Finds.at {m = l .m} (record {
-        hit = from-table (r .judged) p h (omega arith) (record {
-          numbered = omega (arith, c .before .before .before .before .before .before .before .before .before .before .before .before .before .before .pow2 .ensures, c .before .before .before .before .before .before .before .before .before .before .before .before .if1 .left);
-          larger = sym (c .before .before .before .before .before .before .before .before .entry .ensures) ∙ not-true _ (c .before .before .before .before .before .before .before .if5 .taken);
-          taken = eq-eqb _ _ (c .before .before .before .before .if6 .taken);
-          smaller = rw (← c .before .before .pow22 .ensures) (sym (c .before .entry2 .ensures) ∙ c .if7 .taken);
-        });
-        earlier = λ {m'} {i'} k e. r .none p h .none m' k i' e;
-        before = λ {i'} k e. c .before .before .before .before .before .before .loop .inv .none i' k (to-table (r .judged) p h (omega arith) e);
-      });
-    }
+find-in-requires-2 : tie.Need-find-in-requires-2
+find-in-requires-2 c κs =
+    let s = c .before .before .before .before in
+    (s .pre .0, s .pre .1, record { all = pow-mono {i = length (s .args .pairs .now)} {j = 16} (s .pre .1); whole = refl })
 
 pub find-spec : {M : Type 1} → statement M
 find-spec =
     tie.close
     (tie.spec
-    Inv-loop
-    μ-loop
-    Inv-subsets
-    μ-subsets
-    (λ c κs. search needs)
-    subsets-holds
-    fill-row-requires
-    (λ c κs. search needs)
+    (λ c. search needs)
+    find-in-requires
     (λ c. search needs)
     (λ c. search needs)
-    subsets-again
-    (λ c κs. search needs)
-    loop-holds
-    (λ c. search needs)
-    (λ c κs. search needs)
-    sub-entry
-    (λ c κs. search needs)
-    (λ c. search needs)
-    (λ c. search needs)
-    loop-again
-    (λ c. search needs)
-    (λ c. search needs)
-    subsets-again-2
-    returns
-    returns-2)
+    find-in-requires-2
+    (λ c. search needs))

@@ -7,7 +7,7 @@ use Rattle.search.proofs.less.Statement.{statement}
 use Rattle.search.proofs.less.Tie as tie
 
 shl-result : tie.Need-shl-result
-shl-result c = omega (arith, pow-mono {i = c .before .before .before .args .i} {j = 5} (omega arith))
+shl-result c = omega (arith, pow-mono {i = c .before .before .before .before .args .i} {j = 5} (omega arith))
 
 returns : tie.Need-returns
 returns c = less-low _ _ _ (c .before .if1 .taken) (c .before .before .pow2 .ensures)
