@@ -76,17 +76,15 @@ fn put_row(rows: &mut [u64], at: usize, row: Row)
 }
 
 // The rows of so many pairs for the subsets from 512 * w on.
-fn pair_rows(count: usize, w: usize) -> [u64; 128]
-    requires { ⌜ (count ≤ 16) × (w < 128) ⌝ }
-    ensures { λ r. ⌜ PairRows count w r ⌝ }
+fn pair_rows(rows: &mut [u64; 128], count: usize, w: usize)
+    requires { ⌜ (length (now rows) ≡ 128) × (count ≤ 16) × (w < 128) ⌝ }
+    ensures { λ _. ⌜ PairRows count w (now (rows .exit)) ⌝ }
 {
-    let mut rows = [0u64; 128];
     let mut i = 0;
     while i < count {
-        put_row(&mut rows, i * 8, pair_row(w, i));
+        put_row(rows, i * 8, pair_row(w, i));
         i += 1;
     }
-    rows
 }
 
 // Row w, a bit for each of its subsets of the pairs: whether it is allowed.
@@ -95,7 +93,8 @@ pub fn fill_row(body: &[u8], pairs: &[u32], table: &mut [u64], w: usize)
         × Filled strict (now body) (now pairs) (now table) w ⌝ }
     ensures { λ _. ⌜ Filled strict (now (body .entry)) (now (pairs .entry)) (now (table .exit)) (w + 1) ⌝ }
 {
-    let rows = pair_rows(pairs.len(), w);
+    let mut rows = [0u64; 128];
+    pair_rows(&mut rows, pairs.len(), w);
     let row = judge::judge(body, pairs, &rows, w);
     put_row(table, w * 8, row);
 }

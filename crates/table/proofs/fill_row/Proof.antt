@@ -7,7 +7,7 @@ use Rattle.table.proofs.fill_row.Tie as tie
 
 returns : tie.Need-returns
 returns c =
-    let s = c .before .before .before .before .before .before .before .before .before .before in
+    let s = c .before .before .before .before .before .before .before .before .before .before .before in
     let r = c .before .before .before .before .judge in
     rw (c .before .before .put-row .ensures) (filled-more _ _ (r .result) (omega arith) (s .pre .4) (r .ensures))
 
