@@ -28,6 +28,7 @@ pub enum Evaluation {
     Set(DecisionSet),
 }
 
+// What a node makes of the sets below it, by its tag.
 fn leaf_set(tag: u8) -> DecisionSet
     ensures { λ r. ⌜ LeafSet tag (r .code) ⌝ }
 {
@@ -60,7 +61,7 @@ fn two_set(tag: u8, first: DecisionSet, second: DecisionSet) -> DecisionSet
     }
 }
 
-// A scan's word with a set behind it: a call hands both back in one register.
+// A scan's word with a set behind it: a call hands both back in one register. The set behind a refusal is never looked at.
 fn with_set(word: u64, set: DecisionSet) -> u64
     requires { ⌜ (word < 8589934592) × (set .code < 8) ⌝ }
     ensures { λ r. ⌜ (r / 8 ≡ word) × (r % 8 ≡ set .code) ⌝ }
@@ -129,6 +130,7 @@ fn eval_term(file: &[u8], sort: Sort, left: usize, at: usize, nodes: usize, requ
     }
 }
 
+// Evaluates the policy of a file, which is read on the way.
 pub fn eval_policy(file: &[u8], request: &[u8]) -> Evaluation
     requires { ⌜ OrderedFile (now request) ⌝ }
     ensures { λ r. ⌜ Evaluates (now (file .entry)) (map unpacked (numbersOf (now (request .entry)))) r ⌝ }
