@@ -4,7 +4,7 @@ use mathlib.Core.Path.{_≡_, refl, sym, ap, _∙_}
 use mathlib.Core.List.{List, [], _∷_, _++_, append-assoc, append-nil}
 use native.Mathlib.Omega.{arith}
 use lib.ListN.{length, take, drop, set, length-append, length-drop}
-use lib.Seq.{take-at, take-length, drop-at, drop-length, drop-append-add, drop-drop, sets-eq}
+use lib.Seq.{take-append-seam, take-at, take-length, drop-at, drop-length, drop-append-add, drop-drop, sets-eq}
 use Rattle.ptacl.specs.Request.{Request}
 use Rattle.files.specs.Encoding.{framed, pairBytes, requestFile}
 use Rattle.files.specs.Memory.{put, over}
@@ -18,6 +18,10 @@ unfolding over
 over-length xs s h = simp (length-append, length-drop) (omega arith)
 
 -- two lists one behind the other: the second is over the part that starts after the first
+pub over-front : (xs s : List ℕ) → take (length xs) (over xs s) ≡ xs
+unfolding over
+over-front xs s = take-append-seam xs (drop (length xs) s)
+
 pub over-part : (xs ys s : List ℕ) → over (xs ++ ys) s ≡ xs ++ over ys (drop (length xs) s)
 unfolding over
 over-part xs ys s = rw (append-assoc, length-append, drop-drop)

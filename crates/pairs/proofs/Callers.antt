@@ -12,8 +12,7 @@ use Rattle.files.specs.Encoding.{enc}
 use Rattle.files.specs.Places.{Encoded}
 use Rattle.files.proofs.Numbers.{map-packed-unpacked}
 use Rattle.evaluate.specs.Ordered.{Ordered}
-use Rattle.pairs.specs.Lists.{numbers, NamedOf, AllOf, NormalOf, PairsOf, NormalFormOf}
-use Rattle.pairs.specs.declared.Pairs.{Pairs}
+use Rattle.pairs.specs.Lists.{Pairs, numbers, NamedOf, AllOf, NormalOf, PairsOf, NormalFormOf}
 
 -- the numbers of the list are those of pairs that are as told
 pub record Listed (Told : List Pair → Type 0) (l : Pairs) : Type 0 where
@@ -38,17 +37,20 @@ listed Told l few long t = record {
     taken : length (numbers l) ≡ l .count
     taken = length-take-le (l .count) (l .pairs) (omega arith)
 
--- the named pairs of a policy's bytes, passed on
-module _ (b : List ℕ) (e : Encoded b) (named : Pairs) (n : NamedOf b named) where
-  pub named-ready : (named .count ≤ 127) × Ordered (numbers named)
-  named-ready = let h = n .right (e .term) (e .bytes) in (h .most, record { rises = h .ordered })
+-- the named pairs of a policy's bytes, passed on as a slice
+module _ {b : List ℕ} {named : Pairs} (n : NamedOf b named) where
+  pub named-front : length (named .pairs) ≡ 254 → length (numbers named) ≡ named .count
+  named-front l = length-take-le (named .count) (named .pairs) (omega (arith, n .most))
 
-module _ {b : List ℕ} {named l : Pairs} (n : NamedOf b named) where
-  pub all-pairs : AllOf named l → PairsOf b l
-  all-pairs a = record { right = λ p e. a .right (atoms p) (n .right p e) }
+  pub named-ready : Encoded b → length (named .pairs) ≡ 254 → (length (numbers named) ≤ 127) × Ordered (numbers named)
+  named-ready e l = (omega (arith, n .most, named-front l), record { rises = n .right (e .term) (e .bytes) .ordered })
 
-  pub all-normal : {q : Request} → NormalOf named q l → NormalFormOf b q l
-  all-normal a = record { right = λ p e. a .right (atoms p) (n .right p e) }
+  module _ {l : Pairs} where
+    pub all-pairs : AllOf (numbers named) l → PairsOf b l
+    all-pairs a = record { right = λ p e. a .right (atoms p) (n .right p e) }
+
+    pub all-normal : {q : Request} → NormalOf (numbers named) q l → NormalFormOf b q l
+    all-normal a = record { right = λ p e. a .right (atoms p) (n .right p e) }
 
 -- the lists that the operations write
 module _ {b : List ℕ} (p : Policy) (e : b ≡ enc p) (l : Pairs) (long : length (l .pairs) ≡ 254) where

@@ -12,8 +12,7 @@ use Rattle.files.specs.Refusal.{dec16}
 use Rattle.files.specs.Places.{Encoded}
 use Rattle.files.proofs.Numbers.{unpacked-packed}
 use Rattle.files.proofs.Walk.{Item, Walks, pairsMet, items, atoms-met, walk-whole, walk-one, walk-end, walk-atom, walk-node}
-use Rattle.pairs.specs.Lists.{numbers, carry, NamedOf}
-use Rattle.pairs.specs.declared.Pairs.{Pairs}
+use Rattle.pairs.specs.Lists.{Pairs, numbers, carry, NamedOf}
 use Rattle.pairs.proofs.Carry.{carry-moves, carry-ascending}
 
 -- the pairs in the list and those still to be met are all
@@ -81,8 +80,8 @@ module _ (b : List ℕ) (l : Pairs) (at : ℕ) (g : Gathered b l at) where
   gathered-end h =
       let e = walk-end b at h (g .ahead) in
       record {
+        most = omega (arith, g .room);
         right = λ p k. record {
-          most = omega (arith, g .room);
           ordered = g .ordered;
           members = λ x.
               sym (or-false (holds (map unpacked (numbers l)) x))

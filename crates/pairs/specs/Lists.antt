@@ -9,7 +9,14 @@ use Rattle.ptacl.specs.Request.{Pair, Request, holds, has, ascending}
 use Rattle.ptacl.specs.Pairs.{named, allBelow, IsPairs, unpacked, IsNormal}
 use Rattle.ptacl.specs.Term.{Policy, atoms}
 use Rattle.files.specs.Encoding.{enc}
-use Rattle.pairs.specs.declared.Pairs.{Pairs}
+
+-- a list of pairs is the front of an array, and how many they are
+pub record Pairs : Type 0 where
+  pub pairs : List ℕ
+  pub count : ℕ
+
+abbrev pub front : List ℕ → ℕ → Pairs
+front xs n = record { pairs = xs; count = n }
 
 -- the numbers of the list
 abbrev pub numbers : Pairs → List ℕ
@@ -21,10 +28,9 @@ carry x [] = x ∷ []
 carry x (y ∷ ys) = cond (eqb y x) (y ∷ ys) (cond (ltb x y) (x ∷ carry y ys) (y ∷ carry x ys))
 
 -- the named pairs, each once, ascending
-pub record Named (ats : List Pair) (l : Pairs) : Type 0 where
-  pub most : l .count ≤ 127
-  pub ordered : ascending (map unpacked (numbers l)) ≡ true
-  pub members : (x : Pair) → holds (map unpacked (numbers l)) x ≡ named ats x
+pub record Named (ats : List Pair) (l : List ℕ) : Type 0 where
+  pub ordered : ascending (map unpacked l) ≡ true
+  pub members : (x : Pair) → holds (map unpacked l) x ≡ named ats x
 
 -- the fresh pair of a name
 pub record FreshOf (ats : List Pair) (n : ℕ) (x : Pair) : Type 0 where
@@ -48,12 +54,13 @@ pub record Normal (ats : List Pair) (q : Request) (l : Pairs) : Type 0 where
 
 -- what the functions promise, for every policy and every list of atoms
 pub record NamedOf (b : List ℕ) (l : Pairs) : Type 0 where
-  pub right : (p : Policy) → b ≡ enc p → Named (atoms p) l
+  pub most : l .count ≤ 127
+  pub right : (p : Policy) → b ≡ enc p → Named (atoms p) (numbers l)
 
-pub record AllOf (named l : Pairs) : Type 0 where
+pub record AllOf (named : List ℕ) (l : Pairs) : Type 0 where
   pub right : (ats : List Pair) → Named ats named → All ats l
 
-pub record NormalOf (named : Pairs) (q : Request) (l : Pairs) : Type 0 where
+pub record NormalOf (named : List ℕ) (q : Request) (l : Pairs) : Type 0 where
   pub right : (ats : List Pair) → Named ats named → Normal ats q l
 
 pub record PairsOf (b : List ℕ) (l : Pairs) : Type 0 where

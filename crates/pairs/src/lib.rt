@@ -8,15 +8,9 @@ ghost use Rattle.ptacl.specs.Pairs.{unpacked, named, namedOrFresh, unnamed, nor
 ghost use Rattle.files.specs.Memory.{over};
 ghost use Rattle.files.specs.Places.{Encoded, numbersOf};
 ghost use Rattle.evaluate.specs.Ordered.{Ordered, OrderedFile};
-ghost use Rattle.pairs.specs.Lists.{numbers, carry, NamedOf, FreshOf, GoesOn, AllOf, NormalOf, PairsOf, NormalFormOf};
+ghost use Rattle.pairs.specs.Lists.{front, carry, NamedOf, FreshOf, GoesOn, AllOf, NormalOf, PairsOf, NormalFormOf};
 use evaluate::order;
 use files::tags;
-
-// An ascending list of pairs, each name * 65536 + value.
-pub struct Pairs {
-    pub pairs: [u32; 254],
-    pub count: usize,
-}
 
 // Puts a pair into its place among the first `count`, once: how many there are then.
 fn insert(pairs: &mut [u32; 254], count: usize, pair: u32) -> usize
@@ -40,23 +34,22 @@ fn insert(pairs: &mut [u32; 254], count: usize, pair: u32) -> usize
     count + 1
 }
 
-// The named pairs of the policy whose bytes these are.
-fn named_of(term: &[u8]) -> Pairs
-    requires { ⌜ Encoded (now term) ⌝ }
-    ensures { λ r. ⌜ NamedOf (now (term .entry)) r ⌝ }
+// The named pairs of the policy whose bytes these are, ascending at the front of `pairs`: how many they are.
+fn named_of(term: &[u8], pairs: &mut [u32; 254]) -> usize
+    requires { ⌜ Encoded (now term) × (length (now pairs) ≡ 254) ⌝ }
+    ensures { λ r. ⌜ (length (now (pairs .exit)) ≡ 254) × NamedOf (now (term .entry)) (front (now (pairs .exit)) r) ⌝ }
 {
-    let mut pairs = [0u32; 254];
     let mut count = 0;
     let mut at = 0;
     while at < term.len() {
         if term[at] == tags::TARGET_ATOM {
-            count = insert(&mut pairs, count, files::bytes::pair(term, at + 1));
+            count = insert(pairs, count, files::bytes::pair(term, at + 1));
             at += 5;
         } else {
             at += 1;
         }
     }
-    Pairs { pairs, count }
+    count
 }
 
 // Whether the pair is one of these. The walk goes on behind it, so that several are compared at a time.
@@ -104,25 +97,23 @@ fn goes_on(list: &[u32], i: usize, name: u32) -> bool
     false
 }
 
-// The named pairs, and the fresh pair of each of their names, which is put in at the last pair of the name.
-fn all_of(named: Pairs) -> Pairs
-    requires { ⌜ (named .count ≤ 127) × Ordered (numbers named) ⌝ }
-    ensures { λ r. ⌜ AllOf named r ⌝ }
+// The named pairs, and the fresh pair of each of their names, which is put in at the last pair of the name: how many they are.
+fn all_of(named: &[u32], pairs: &mut [u32; 254]) -> usize
+    requires { ⌜ (length (now named) ≤ 127) × Ordered (now named) × (length (now pairs) ≡ 254) ⌝ }
+    ensures { λ r. ⌜ (length (now (pairs .exit)) ≡ 254) × AllOf (now (named .entry)) (front (now (pairs .exit)) r) ⌝ }
 {
-    let from = named.pairs;
-    let count = named.count;
-    let mut pairs = named.pairs;
-    let mut all = count;
+    copy(named, pairs);
+    let mut all = named.len();
     let mut i = 0;
-    while i < count {
-        let name = name_of(from[i]);
-        if !goes_on(&from[..count], i, name) {
-            let fresh = fresh_of(&from[..count], name);
-            all = insert(&mut pairs, all, fresh);
+    while i < named.len() {
+        let name = name_of(named[i]);
+        if !goes_on(named, i, name) {
+            let fresh = fresh_of(named, name);
+            all = insert(pairs, all, fresh);
         }
         i += 1;
     }
-    Pairs { pairs, count: all }
+    all
 }
 
 // Whether the request holds a value of the name that is not named.
@@ -155,47 +146,46 @@ fn is_kept(named: &[u32], request: &[u8], pair: u32) -> bool
     holds_unnamed(named, request, pair / 65536)
 }
 
-// The normal form of a request.
-fn normal_of(named: Pairs, request: &[u8]) -> Pairs
-    requires { ⌜ (named .count ≤ 127) × Ordered (numbers named) × OrderedFile (now request) ⌝ }
-    ensures { λ r. ⌜ NormalOf named (map unpacked (numbersOf (now (request .entry)))) r ⌝ }
+// The normal form of a request: how many pairs it has.
+fn normal_of(named: &[u32], request: &[u8], kept: &mut [u32; 254]) -> usize
+    requires { ⌜ (length (now named) ≤ 127) × Ordered (now named) × OrderedFile (now request) × (length (now kept) ≡ 254) ⌝ }
+    ensures { λ r. ⌜ (length (now (kept .exit)) ≡ 254)
+        × NormalOf (now (named .entry)) (map unpacked (numbersOf (now (request .entry)))) (front (now (kept .exit)) r) ⌝ }
 {
-    let from = named.pairs;
-    let n = named.count;
-    let all = all_of(named);
-    let pairs = all.pairs;
-    let count = all.count;
-    let mut kept = [0u32; 254];
+    let mut pairs = [0u32; 254];
+    let count = all_of(named, &mut pairs);
     let mut k = 0;
     let mut i = 0;
     while i < count {
         let pair = pairs[i];
-        if is_kept(&from[..n], request, pair) {
+        if is_kept(named, request, pair) {
             kept[k] = pair;
             k += 1;
         }
         i += 1;
     }
-    Pairs {
-        pairs: kept,
-        count: k,
-    }
+    k
 }
 
-// The pairs of a policy that was read.
-pub fn pairs_of(body: &[u8]) -> Pairs
-    requires { ⌜ Encoded (now body) ⌝ }
-    ensures { λ r. ⌜ PairsOf (now (body .entry)) r ⌝ }
+// The pairs of a policy that was read, ascending at the front of `pairs`: how many they are.
+pub fn pairs_of(body: &[u8], pairs: &mut [u32; 254]) -> usize
+    requires { ⌜ Encoded (now body) × (length (now pairs) ≡ 254) ⌝ }
+    ensures { λ r. ⌜ (length (now (pairs .exit)) ≡ 254) × PairsOf (now (body .entry)) (front (now (pairs .exit)) r) ⌝ }
 {
-    all_of(named_of(body))
+    let mut named = [0u32; 254];
+    let count = named_of(body, &mut named);
+    all_of(&named[..count], pairs)
 }
 
-// The normal form of a request for a policy that was read.
-pub fn normal_form_of(body: &[u8], request: &[u8]) -> Pairs
-    requires { ⌜ Encoded (now body) × OrderedFile (now request) ⌝ }
-    ensures { λ r. ⌜ NormalFormOf (now (body .entry)) (map unpacked (numbersOf (now (request .entry)))) r ⌝ }
+// The normal form of a request for a policy that was read: how many pairs it has.
+pub fn normal_form_of(body: &[u8], request: &[u8], kept: &mut [u32; 254]) -> usize
+    requires { ⌜ Encoded (now body) × OrderedFile (now request) × (length (now kept) ≡ 254) ⌝ }
+    ensures { λ r. ⌜ (length (now (kept .exit)) ≡ 254)
+        × NormalFormOf (now (body .entry)) (map unpacked (numbersOf (now (request .entry)))) (front (now (kept .exit)) r) ⌝ }
 {
-    normal_of(named_of(body), request)
+    let mut named = [0u32; 254];
+    let count = named_of(body, &mut named);
+    normal_of(&named[..count], request, kept)
 }
 
 // Copies numbers to the front of a lent slice.

@@ -17,8 +17,7 @@ use Rattle.files.specs.Memory.{over}
 use Rattle.files.proofs.Memory.{request-length}
 use Rattle.search.specs.Found.{Found, none, first}
 use Rattle.search.specs.declared.Verdict.{Verdict}
-use Rattle.pairs.specs.Lists.{numbers}
-use Rattle.pairs.specs.declared.Pairs.{Pairs}
+use Rattle.pairs.specs.Lists.{Pairs, numbers}
 use Rattle.pairs.proofs.Callers.{Listed}
 use Rattle.sinkheron.specs.Answer.{Answer, refusal, success}
 use Rattle.sinkheron.specs.Ways.{holding, the, stops, passes, gives}

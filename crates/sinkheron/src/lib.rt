@@ -104,9 +104,8 @@ pub fn list_pairs(policy: &[u8], pairs: &mut [u32]) -> Listing
         return Listing::Refused { number, place };
     }
     let body = files::policy::body(policy);
-    let all = pairs::pairs_of(body);
-    let list = all.pairs;
-    let count = all.count;
+    let mut list = [0u32; 254];
+    let count = pairs::pairs_of(body, &mut list);
     if pairs.len() < count {
         return Listing::Refused {
             number: 13,
@@ -125,9 +124,8 @@ pub fn normal_form(policy: &[u8], request: &[u8], space: &mut [u8]) -> Normalise
         return Normalised::Refused { number, place };
     }
     let body = files::policy::body(policy);
-    let normal = pairs::normal_form_of(body, request);
-    let list = normal.pairs;
-    let count = normal.count;
+    let mut list = [0u32; 254];
+    let count = pairs::normal_form_of(body, request, &mut list);
     if space.len() < 3 + 4 * count {
         return Normalised::Refused {
             number: 13,
@@ -160,9 +158,8 @@ pub fn search(policy: &[u8], space: &mut [u8]) -> Searched
         return Searched::Refused { number, place };
     }
     let body = files::policy::body(policy);
-    let all = pairs::pairs_of(body);
-    let list = all.pairs;
-    let count = all.count;
+    let mut list = [0u32; 254];
+    let count = pairs::pairs_of(body, &mut list);
     if 16 < count {
         return Searched::Refused {
             number: 12,

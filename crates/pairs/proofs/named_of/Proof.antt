@@ -4,32 +4,22 @@ use mathlib.Core.Path.{_≡_, refl}
 use native.Mathlib.Omega.{arith}
 use borrow.Author.Needs.{needs}
 use lib.ListN.{length}
+use Rattle.pairs.specs.Lists.{front}
 use Rattle.pairs.proofs.Gather.{Gathered, gathered-start, gathered-fits, gathered-atom, gathered-node, gathered-end}
 use Rattle.pairs.proofs.named_of.Statement.{statement}
 use Rattle.pairs.proofs.named_of.Tie as tie
 
 abbrev Inv-loop : tie.InvT-loop
-Inv-loop term pairs₀ count₀ at₀ pairs count at = (length pairs ≡ 254) × Gathered term (record { pairs = pairs; count = count }) at
+Inv-loop term pairs₀ count₀ at₀ pairs count at = (length pairs ≡ 254) × Gathered term (front pairs count) at
 
 abbrev μ-loop : tie.MeasureT-loop
 μ-loop term pairs₀ count₀ at₀ pairs count at = length term - at
 
-atom : (c : tie.Then1 Inv-loop μ-loop)
-    → (c .before .before .before .loop .at + 5 ≤ length (c .before .before .before .before .before .args .term .now))
-    × (c .before .before .before .loop .count < 127)
+atom : (c : tie.Then1 Inv-loop μ-loop) → (c .before .before .before .loop .at + 5 ≤ length (c .before .before .before .before .before .args .term .now)) × (c .before .before .before .loop .count < 127)
 atom c = gathered-fits _ _ _ (c .before .before .before .loop .inv .1) (search needs) (c .if1 .taken)
 
 loop-holds : tie.Need-loop-holds Inv-loop μ-loop
-loop-holds c = (search needs, gathered-start _ _ refl (c .before .pre))
-
-pair-requires : tie.Need-pair-requires Inv-loop μ-loop
-pair-requires c κs = omega (arith, atom (c .before))
-
-insert-requires : tie.Need-insert-requires Inv-loop μ-loop
-insert-requires c κs = (omega (arith, atom (c .before .before)), c .before .before .before .before .before .loop .inv .0)
-
-add-at : tie.Need-add-at Inv-loop μ-loop
-add-at c = omega (arith, atom (c .before .before .before))
+loop-holds c = (c .before .pre .1, gathered-start _ _ refl (c .before .pre .0))
 
 loop-again : tie.Need-loop-again Inv-loop μ-loop
 loop-again c =
@@ -48,7 +38,7 @@ loop-again-2 c =
     (v .0, gathered-node _ _ _ (v .1) (search needs) (c .if1 .left))
 
 returns : tie.Need-returns Inv-loop μ-loop
-returns c = gathered-end _ _ (c .before .loop .at) (c .before .loop .inv .1) (search needs)
+returns c = (c .before .loop .inv .0, gathered-end _ _ (c .before .loop .at) (c .before .loop .inv .1) (search needs))
 
 pub named-of-spec : {M : Type 1} → statement M
 named-of-spec =
@@ -59,9 +49,9 @@ named-of-spec =
     loop-holds
     (λ c. search needs)
     (λ c. search needs)
-    pair-requires
-    insert-requires
-    add-at
+    (λ c κs. omega (arith, atom (c .before)))
+    (λ c κs. (omega (arith, atom (c .before .before)), c .before .before .before .before .before .loop .inv .0))
+    (λ c. omega (arith, atom (c .before .before .before)))
     (λ c. search needs)
     loop-again
     (λ c. search needs)

@@ -7,6 +7,7 @@ use lib.ListN.{length}
 use Rattle.ptacl.specs.Term.{atoms}
 use Rattle.ptacl.specs.Pairs.{IsNormal}
 use Rattle.files.specs.Places.{PolicyFile}
+use Rattle.pairs.specs.Lists.{front}
 use Rattle.pairs.proofs.Callers.{Listed, normal-listed}
 use Rattle.sinkheron.proofs.Taken.{Lent, body-lent, Sent, files-refused, files-taken}
 use Rattle.sinkheron.proofs.Written.{file-too-long, file-written}
@@ -43,13 +44,13 @@ its-request : (c : lts.After-body cs reads.Pre reads.Post) → Sent (c .before .
 its-request c = its-files (c .before) .1
 
 its-form : (c : lts.After-normal-form-of cs reads.Pre reads.Post) →
-    Listed (IsNormal (atoms (its-body (c .before) .term)) (its-request (c .before) .request)) (c .normal-form-of .result)
+    Listed (IsNormal (atoms (its-body (c .before .before) .term)) (its-request (c .before .before) .request)) (front (c .normal-form-of .last .1 .1 .0) (c .normal-form-of .result))
 its-form c =
-    let p = its-body (c .before) in
-    normal-listed (p .term) (p .bytes) _ (search needs) (rw (its-request (c .before) .pairs) at (c .normal-form-of .ensures))
+    let p = its-body (c .before .before) in
+    normal-listed (p .term) (p .bytes) _ (c .normal-form-of .ensures .0) (rw (its-request (c .before .before) .pairs) at (c .normal-form-of .ensures .1))
 
-fits : (c : lts.After-normal-form-of cs reads.Pre reads.Post) → c .normal-form-of .result .count ≤ 254
-fits c = let p = its-body (c .before) in c .normal-form-of .ensures .right (p .term) (p .bytes) .most
+fits : (c : lts.After-normal-form-of cs reads.Pre reads.Post) → c .normal-form-of .result ≤ 254
+fits c = let p = its-body (c .before .before) in c .normal-form-of .ensures .1 .right (p .term) (p .bytes) .most
 
 returns : tie.Need-returns
 returns c = files-refused (c .before .before .before .before .before .before .shared-slice-known .given) (sym (c .before .before .before .read-files .ensures) ∙ c .before .number .given .1)
@@ -58,35 +59,33 @@ body-requires : tie.Need-body-requires
 body-requires c κs = its-files c .0
 
 normal-form-of-requires : tie.Need-normal-form-of-requires
-normal-form-of-requires c κs = (its-body c .encoded, its-request c .ordered)
+normal-form-of-requires c κs = (its-body (c .before) .encoded, its-request (c .before) .ordered, search needs)
 
 mul-if1 : tie.Need-mul-if1
-mul-if1 c = omega (arith, fits (c .before))
+mul-if1 c = omega (arith, fits c)
 
 add-if1 : tie.Need-add-if1
-add-if1 c = omega (arith, fits (c .before))
+add-if1 c = omega (arith, fits c)
 
 returns-2 : tie.Need-returns-2
 returns-2 c =
-    file-too-long (its-body (c .before .before .before) .file) _ (its-request (c .before .before .before) .file) (its-form (c .before .before)) (c .if1 .taken)
+    file-too-long (its-body (c .before .before .before) .file) _ (its-request (c .before .before .before) .file) (its-form (c .before)) (c .if1 .taken)
 
 array-share-prefix-list : tie.Need-array-share-prefix-list
-array-share-prefix-list c =
-    let l : length (c .before .before .normal-form-of .result .pairs) ≡ 254 = search needs in
-    omega (arith, fits (c .before .before))
+array-share-prefix-list c = omega (arith, c .before .normal-form-of .ensures .0, fits (c .before))
 
 slice-aggregate-write-request : tie.Need-slice-aggregate-write-request
-slice-aggregate-write-request c = sym (its-form (c .before .before .before) .front)
+slice-aggregate-write-request c = sym (its-form (c .before .before) .front)
 
 write-request-requires : tie.Need-write-request-requires
 write-request-requires c κs =
-    let n = its-form (c .before .before .before .before) .front in
-    (omega (arith, n, fits (c .before .before .before .before)), omega (arith, n, c .before .before .if1 .left))
+    let n = its-form (c .before .before .before) .front in
+    (omega (arith, n, fits (c .before .before .before)), omega (arith, n, c .before .before .if1 .left))
 
 returns-3 : tie.Need-returns-3
 returns-3 c =
     file-written (its-body (c .before .before .before .before .before .before .before .before) .file) _ (its-request (c .before .before .before .before .before .before .before .before) .file)
-    (its-form (c .before .before .before .before .before .before .before)) (c .before .before .before .before .before .if1 .left) (c .before .before .write-request .ensures .0) (c .before .before .write-request .ensures .1)
+    (its-form (c .before .before .before .before .before .before)) (c .before .before .before .before .before .if1 .left) (c .before .before .write-request .ensures .0) (c .before .before .write-request .ensures .1)
 
 pub normal-form-spec : {M : Type 1} → statement M
 normal-form-spec =
