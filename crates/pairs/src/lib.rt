@@ -1,4 +1,5 @@
-// The pairs of a policy that was read, and the normal form of a request.
+// The pairs of a policy that was read, and the normal form of a request. A list goes to the front of a lent array of the largest size
+// that it can have; an array that is returned would be copied.
 ghost use mathlib.Core.Path.{_≡_};
 ghost use mathlib.Core.Bool.{true};
 ghost use mathlib.Core.List.{map};
