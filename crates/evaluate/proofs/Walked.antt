@@ -1,4 +1,4 @@
--- For a walk that reads and evaluates: what the sets below a node make of the node, one law a shape.
+-- For a walk that reads and evaluates: what a node makes of the sets below it, and a walk of the walks below it.
 use Prim.Native.Nat.{ℕ, _+_, _/_, _%_}
 use mathlib.Core.Path.{_≡_, refl, sym, ap, ap₂, subst, _∙_}
 use mathlib.Core.List.{List}
@@ -18,7 +18,7 @@ use Rattle.files.specs.declared.policy.Sort.{Sort as SortC}
 use Rattle.files.specs.declared.policy.Shape.{Shape as ShapeC}
 use Rattle.files.specs.declared.policy.Head.{Head as HeadC}
 use Rattle.files.specs.declared.policy.Scanned.{Scanned}
-use Rattle.files.proofs.PolicySeen.{never, under, seen-at, seen-two-at, head-tagged, pair-done}
+use Rattle.files.proofs.PolicySeen.{never, Tagged, under, seen-at, seen-two-at, head-tagged, pair-done}
 use Rattle.evaluate.specs.Evaluated.{Told}
 use Rattle.evaluate.specs.Walked.{codeOf, Comes, Walked, Numbered, LeafSet, OneSet, TwoSet}
 use Rattle.evaluate.proofs.Nodes.{act, act2, is-atom, is-deny, is-allow, is-targeted, is-not, is-default, is-and}
@@ -35,55 +35,46 @@ acts2 f h target v w e g =
     ap₂ (λ c d. code (each2 f (setOf c) (setOf d))) e g ∙ ap₂ (λ y z. code (each2 f y z)) (code-set (single v)) (code-set (single w)) ∙ h v w
 acts2 f h policy v w e g = ap₂ (λ c d. code (each2 f (setOf c) (setOf d))) e g
 
--- a node of each shape, by its tag
-module _ {b : List ℕ} {i : ℕ} {q : Request} where
-  numbers-of : {s : Sort} {c : ℕ} (n : Node s) → getD b i 0 ≡ tagOf n → shapeName (shape n) ≡ ShapeC.Numbers
-      → c ≡ code (single (atomAt q (dec16 b (i + 1)) (dec16 b (i + 1 + 2)))) → Comes s b i q c (i + 5)
-  numbers-of anAtom e g f = record { told = _; evaluated = is-atom e refl; its = f }
-  numbers-of aDeny e g f = never (cc)
-  numbers-of anAllow e g f = never (cc)
-  numbers-of aTargeted e g f = never (cc)
-  numbers-of (aNot s) e g f = never (cc)
-  numbers-of (aDefault s) e g f = never (cc)
-  numbers-of (anAnd s) e g f = never (cc)
+-- what a node of a shape, known by its tag, makes of the sets below it
+module _ (b : List ℕ) (i : ℕ) (q : Request) where
+  abbrev Makes : Sort → ShapeC → Type 0
+  Makes s ShapeC.Numbers = (c : ℕ) → c ≡ code (single (atomAt q (dec16 b (i + 1)) (dec16 b (i + 1 + 2)))) → Comes s b i q c (i + 5)
+  Makes s ShapeC.Leaf = (c : ℕ) → LeafSet (getD b i 0) c → Comes s b i q c (i + 1)
+  Makes s ShapeC.One = (c d m : ℕ) → Comes s b (i + 1) q c m → OneSet (getD b i 0) c d → Comes s b i q d m
+  Makes s (ShapeC.Two r) = (c d w m k : ℕ) → Comes (sortOf r) b (i + 1) q c m → Comes s b m q d k → TwoSet (getD b i 0) c d w → Comes s b i q w k
 
-  leaf-of : {s : Sort} {c : ℕ} (n : Node s) → getD b i 0 ≡ tagOf n → shapeName (shape n) ≡ ShapeC.Leaf → LeafSet (getD b i 0) c → Comes s b i q c (i + 1)
-  leaf-of anAtom e g l = never (cc)
-  leaf-of aDeny e g l = record { told = _; evaluated = is-deny e refl; its = l .deny e }
-  leaf-of anAllow e g l = record { told = _; evaluated = is-allow e refl; its = l .allow e }
-  leaf-of aTargeted e g l = never (cc)
-  leaf-of (aNot s) e g l = never (cc)
-  leaf-of (aDefault s) e g l = never (cc)
-  leaf-of (anAnd s) e g l = never (cc)
+  and-makes : {s : Sort} → getD b i 0 ≡ tagOf (anAnd s) → (c d w m k : ℕ) → Comes s b (i + 1) q c m → Comes s b m q d k → TwoSet (getD b i 0) c d w
+      → Comes s b i q w k
+  and-makes {s} e c d w m k x y l = record {
+    told = _;
+    evaluated = is-and e (x .evaluated) (y .evaluated) refl;
+    its = l .and s e ∙ acts2 andV (of-singles andV refl) s (x .told) (y .told) (x .its) (y .its);
+  }
 
-  module _ {m : ℕ} where
-    one-of : {s : Sort} {c d : ℕ} (n : Node s) → getD b i 0 ≡ tagOf n → shapeName (shape n) ≡ ShapeC.One → Comes s b (i + 1) q c m → OneSet (getD b i 0) c d
-        → Comes s b i q d m
-    one-of anAtom e g x l = never (cc)
-    one-of aDeny e g x l = never (cc)
-    one-of anAllow e g x l = never (cc)
-    one-of aTargeted e g x l = never (cc)
-    one-of (aNot s) e g x l = record { told = _; evaluated = is-not e (x .evaluated) refl; its = l .not s e ∙ acts notV (of-single notV refl) s (x .told) (x .its) }
-    one-of (aDefault s) e g x l =
-        record { told = _; evaluated = is-default e (x .evaluated) refl; its = l .default s e ∙ acts defaultV (of-single defaultV refl) s (x .told) (x .its) }
-    one-of (anAnd s) e g x l = never (cc)
+  makes : {s : Sort} (n : Node s) → getD b i 0 ≡ tagOf n → Makes s (shapeName (shape n))
+  makes anAtom e = λ c f. record { told = _; evaluated = is-atom e refl; its = f }
+  makes aDeny e = λ c l. record { told = _; evaluated = is-deny e refl; its = l .deny e }
+  makes anAllow e = λ c l. record { told = _; evaluated = is-allow e refl; its = l .allow e }
+  makes aTargeted e = λ c d w m k x y l. record {
+    told = _;
+    evaluated = is-targeted e (x .evaluated) (y .evaluated) refl;
+    its = l .targeted e .value (x .told) (x .its) ∙ ap (λ z. code (below (x .told) (setOf z))) (y .its);
+  }
+  makes (aNot s) e = λ c d m x l. record {
+    told = _;
+    evaluated = is-not e (x .evaluated) refl;
+    its = l .not s e ∙ acts notV (of-single notV refl) s (x .told) (x .its);
+  }
+  makes (aDefault s) e = λ c d m x l. record {
+    told = _;
+    evaluated = is-default e (x .evaluated) refl;
+    its = l .default s e ∙ acts defaultV (of-single defaultV refl) s (x .told) (x .its);
+  }
+  makes (anAnd target) e = and-makes e
+  makes (anAnd policy) e = and-makes e
 
-    two-of : {s : Sort} {r : SortC} {c d w k : ℕ} (n : Node s) → getD b i 0 ≡ tagOf n → shapeName (shape n) ≡ ShapeC.Two r → Comes (sortOf r) b (i + 1) q c m
-        → Comes s b m q d k → TwoSet (getD b i 0) c d w → Comes s b i q w k
-    two-of anAtom e g x y l = never (cc)
-    two-of aDeny e g x y l = never (cc)
-    two-of anAllow e g x y l = never (cc)
-    two-of {r = SortC.Target} aTargeted e g x y l =
-        record { told = _; evaluated = is-targeted e (x .evaluated) (y .evaluated) refl; its = l .targeted e .value (x .told) (x .its) ∙ ap (λ z. code (below (x .told) (setOf z))) (y .its) }
-    two-of {r = SortC.Policy} aTargeted e g x y l = never (cc)
-    two-of (aNot s) e g x y l = never (cc)
-    two-of (aDefault s) e g x y l = never (cc)
-    two-of {r = SortC.Target} (anAnd target) e g x y l =
-        record { told = _; evaluated = is-and e (x .evaluated) (y .evaluated) refl; its = l .and target e ∙ acts2 andV (of-singles andV refl) target (x .told) (y .told) (x .its) (y .its) }
-    two-of {r = SortC.Policy} (anAnd policy) e g x y l =
-        record { told = _; evaluated = is-and e (x .evaluated) (y .evaluated) refl; its = l .and policy e ∙ acts2 andV (of-singles andV refl) policy (x .told) (y .told) (x .its) (y .its) }
-    two-of {r = SortC.Policy} (anAnd target) e g x y l = never (cc)
-    two-of {r = SortC.Target} (anAnd policy) e g x y l = never (cc)
+  made : {s : Sort} {g : ShapeC} {next : ℕ} → Tagged b s i g next → Makes s g
+  made {s} t = subst (Makes s) (t .so) (makes (t .its) (t .byte))
 
 moved : {s : Sort} {b : List ℕ} {i j m : ℕ} {q : Request} {c d : ℕ} → i ≡ j → c ≡ d → Comes s b i q c m → Comes s b j q d m
 moved {s} {b} {i} {m = m} {q = q} {d = d} e f x = subst (λ z. Comes s b z q d m) e (subst (λ z. Comes s b i q z m) f x)
@@ -108,7 +99,7 @@ module _ (b : List ℕ) (s : Sort) (left at nodes : ℕ) (q : Request) where
             let t = head-tagged _ _ _ _ _ _ _ _ h in
             let i : at + 5 ≡ m = omega (arith, pair-done _ _ _ e .0, t .behind) in
             subst (Comes s b at q (w % 8)) i
-            (numbers-of (t .its) (t .byte) (t .so) (subst (λ n. w % 8 ≡ code (single (atomAt q (dec16 b n) (dec16 b (n + 2))))) (t .behind) (x .value e)))
+            (made _ _ _ t _ (subst (λ n. w % 8 ≡ code (single (atomAt q (dec16 b n) (dec16 b (n + 2))))) (t .behind) (x .value e)))
 
     pub walked-leaf : {w c : ℕ} → heads (HeadC.Node ShapeC.Leaf next) → Scans (Scanned.Done next (nodes + 1)) (w / 8) → LeafSet (getD b at 0) c → w % 8 ≡ c
         → Walked s b at q there w
@@ -118,7 +109,7 @@ module _ (b : List ℕ) (s : Sort) (left at nodes : ℕ) (q : Request) where
         go {m} f =
             let t = head-tagged _ _ _ _ _ _ _ _ h in
             let i : next ≡ m = cc in
-            rw e (subst (Comes s b at q _) (sym (t .behind) ∙ i) (leaf-of (t .its) (t .byte) (t .so) l))
+            rw e (subst (Comes s b at q _) (sym (t .behind) ∙ i) (made _ _ _ t _ l))
 
     pub walked-one : {v w c d : ℕ} → heads (HeadC.Node ShapeC.One next) → Walked s b next q (under 255 b s left at nodes s next (nodes + 1)) v
         → c ≡ v % 8 → OneSet (getD b at 0) c d → (w / 8 ≡ v / 8) × (w % 8 ≡ d) → Walked s b at q there w
@@ -126,7 +117,7 @@ module _ (b : List ℕ) (s : Sort) (left at nodes : ℕ) (q : Request) where
       reads = subst (Scans _) (sym (f .0)) (x .reads);
       comes = λ g.
           let t = head-tagged _ _ _ _ _ _ _ _ h in
-          rw (f .1) (one-of (t .its) (t .byte) (t .so) (moved (t .behind) (sym e) (x .comes g)) l);
+          rw (f .1) (made _ _ _ t _ _ _ (moved (t .behind) (sym e) (x .comes g)) l);
     })
 
     module _ {r : SortC} (h : heads (HeadC.Node (ShapeC.Two r) next)) where
@@ -143,5 +134,5 @@ module _ (b : List ℕ) (s : Sort) (left at nodes : ℕ) (q : Request) where
         reads = subst (Scans _) (sym (i .0)) (y .reads);
         comes = λ j.
             let t = head-tagged _ _ _ _ _ _ _ _ h in
-            rw (i .1) (two-of (t .its) (t .byte) (t .so) (moved (t .behind) (sym f) (x .comes e)) (moved refl (sym g) (y .comes j)) l);
+            rw (i .1) (made _ _ _ t _ _ _ _ _ (moved (t .behind) (sym f) (x .comes e)) (moved refl (sym g) (y .comes j)) l);
       })

@@ -2,8 +2,9 @@
 use Prim.Native.Nat.{ℕ, _+_, _/_, _%_, _<_}
 use mathlib.Core.Path.{_≡_}
 use mathlib.Core.List.{List}
-use Rattle.ptacl.specs.Value.{Value, v1, v0, notV, defaultV, andV}
-use Rattle.ptacl.specs.Values.{single, each, each2, code, setOf, Targeted}
+use Rattle.ptacl.specs.Value.{v1, v0, notV, defaultV, andV}
+use Rattle.ptacl.specs.Values.{single, each, each2, code, setOf}
+use Rattle.ptacl.specs.Cases.{Targeted}
 use Rattle.ptacl.specs.Request.{Request}
 use Rattle.ptacl.specs.Term.{Sort, target, policy, Policy, aDeny, anAllow, aTargeted, aNot, aDefault, anAnd, tagOf}
 use Rattle.ptacl.specs.Meaning.{atomAt, eval}

@@ -138,7 +138,14 @@ pub fn eval_policy(file: &[u8], request: &[u8]) -> Evaluation
     if let Frame::Refused { number, place } = frame::unframe(file, 1) {
         return Evaluation::Refused { number, place };
     }
-    let word = eval_term(file, Sort::Policy, 32, 3, 0, request);
+    let word = eval_term(
+        file,
+        Sort::Policy,
+        policy::DEEPEST,
+        policy::BEGIN,
+        0,
+        request,
+    );
     match policy::finish(file, word / 8) {
         PolicyRead::Refused { number, place } => Evaluation::Refused { number, place },
         PolicyRead::Accepted => Evaluation::Set(set_of(word)),

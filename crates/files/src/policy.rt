@@ -11,6 +11,11 @@ use crate::frame;
 use crate::frame::Frame;
 use crate::tags;
 
+// Where the body of a policy file begins, and how deep a policy may be.
+pub const BEGIN: usize = 3;
+
+pub const DEEPEST: usize = 32;
+
 pub enum Sort {
     Target,
     Policy,
@@ -211,7 +216,7 @@ pub fn read_policy(file: &[u8]) -> PolicyRead
     if let Frame::Refused { number, place } = frame::unframe(file, 1) {
         return PolicyRead::Refused { number, place };
     }
-    finish(file, read_term(file, Sort::Policy, 32, 3, 0))
+    finish(file, read_term(file, Sort::Policy, DEEPEST, BEGIN, 0))
 }
 
 // The body of a policy file that was accepted. Every later pass is lent this part, so that only the reader knows where it begins.
@@ -219,5 +224,5 @@ pub fn body(file: &[u8]) -> &[u8]
     requires { ⌜ PolicyFile (now file) ⌝ }
     ensures { λ r. ⌜ BodyOf (now (file .entry)) (now r) ⌝ }
 {
-    &file[3..]
+    &file[BEGIN..]
 }

@@ -3,7 +3,7 @@ use Prim.Native.Nat.{ℕ, _≤_}
 use mathlib.Core.Path.{_≡_, refl, sym, _∙_}
 use mathlib.Core.List.{List, map}
 use native.Mathlib.Omega.{arith}
-use lib.ListN.{length, take, length-map}
+use lib.ListN.{length, length-map}
 use lib.Seq.{length-take-le}
 use Rattle.ptacl.specs.Request.{Pair, Request}
 use Rattle.ptacl.specs.Pairs.{IsPairs, packed, unpacked, IsNormal}

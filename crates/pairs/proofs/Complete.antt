@@ -1,6 +1,6 @@
 -- The loop that puts the fresh pair of each name to the named pairs.
 use Prim.Native.Nat.{ℕ, _+_, _/_, _≤_, _<_}
-use mathlib.Core.Path.{_≡_, refl, sym, ap, _∙_}
+use mathlib.Core.Path.{_≡_, sym, ap, _∙_}
 use mathlib.Core.Bool.{true, _&&_, _||_, or-false, and-or-distrib-right}
 use mathlib.Core.List.{List, map}
 use native.Mathlib.Omega.{arith}

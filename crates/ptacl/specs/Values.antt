@@ -1,7 +1,6 @@
 -- Document 01, "Names, requests, three values": sets of values, the operations on every member or every pair of members, and
 -- the code of a set.
-use Prim.Native.Nat.{ℕ, _+_, _/_, _%_, _<_}
-use mathlib.Core.Path.{_≡_}
+use Prim.Native.Nat.{ℕ, _+_, _/_, _%_}
 use mathlib.Core.Bool.{Bool, not, _&&_, _||_, cond}
 use lib.Dec.{eqb}
 use Rattle.ptacl.specs.Value.{Value, v1, v0, vU, same}
@@ -57,8 +56,3 @@ code s = cond (s .has1) 1 0 + (cond (s .has0) 2 0 + cond (s .hasU) 4 0)
 -- the set that a code from 0 to 7 stands for
 abbrev pub setOf : ℕ → Values
 setOf c = record { has1 = eqb (c % 2) 1; has0 = eqb (c / 2 % 2) 1; hasU = eqb (c / 4 % 2) 1 }
-
--- a targeted policy by codes: of the set of its target's value alone, of its body's set, of its own
-pub record Targeted (target body own : ℕ) : Type 0 where
-  pub value : (v : Value) → target ≡ code (single v) → own ≡ code (under v (setOf body))
-  pub small : own < 8

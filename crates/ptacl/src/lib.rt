@@ -1,8 +1,8 @@
 // PTaCL: the three values of a target, and decision sets.
 ghost use mathlib.Core.Path.{_≡_};
 ghost use Rattle.ptacl.specs.Value.{notV, defaultV, andV};
-ghost use Rattle.ptacl.specs.Values.{single, union, each, each2, code, setOf, Targeted};
-ghost use Rattle.ptacl.specs.Cases.{valueOf};
+ghost use Rattle.ptacl.specs.Values.{single, union, each, each2, code, setOf};
+ghost use Rattle.ptacl.specs.Cases.{valueOf, Targeted};
 
 // What a target comes to.
 pub enum TargetValue {

@@ -1,6 +1,6 @@
 -- `normal_of` keeps those of the policy's pairs that are in the normal form.
 use Prim.Native.Nat.{_-_, _≤_}
-use mathlib.Core.Path.{_≡_, refl, sym, _∙_}
+use mathlib.Core.Path.{refl, sym, _∙_}
 use mathlib.Core.Logic.{⊎-elim}
 use mathlib.Core.List.{map}
 use native.Mathlib.Omega.{arith}

@@ -1,9 +1,8 @@
 -- `normal_form` meets its promise.
 use borrow.Author.Needs.{needs}
 use Prim.Native.Nat.{_≤_}
-use mathlib.Core.Path.{_≡_, sym, _∙_}
+use mathlib.Core.Path.{sym, _∙_}
 use native.Mathlib.Omega.{arith}
-use lib.ListN.{length}
 use Rattle.ptacl.specs.Term.{atoms}
 use Rattle.ptacl.specs.Pairs.{IsNormal}
 use Rattle.files.specs.Places.{PolicyFile}

@@ -1,8 +1,7 @@
 -- `eval_numbers` meets its contract.
-use mathlib.Core.Path.{_≡_, sym, ap, subst, _∙_}
+use mathlib.Core.Path.{sym, ap, subst, _∙_}
 use native.Mathlib.Omega.{arith}
 use borrow.Author.Needs.{needs}
-use lib.ListN.{length}
 use mathlib.Core.List.{map}
 use Rattle.ptacl.specs.Values.{single, code}
 use Rattle.ptacl.specs.Pairs.{unpacked}

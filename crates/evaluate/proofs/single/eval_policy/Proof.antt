@@ -9,7 +9,6 @@ use Rattle.files.specs.Prefix.{scan}
 use Rattle.files.specs.ReadPolicy.{inBytes, readPolicy}
 use Rattle.files.specs.Cases.{frameOf, policyRead}
 use Rattle.files.specs.declared.frame.Frame.{Frame}
-use Rattle.files.specs.declared.policy.PolicyRead.{PolicyRead}
 use Rattle.files.proofs.Framing.{lent-bytes, whole-file, whole-short}
 use Rattle.files.proofs.PolicySeen.{never, file-refused, file-framed, accepted-ended, word-below}
 use Rattle.files.proofs.View.{file-at}

@@ -3,7 +3,8 @@ use Prim.Native.Nat.{ℕ, _<_}
 use mathlib.Core.Path.{_≡_, refl}
 use native.Mathlib.Omega.{arith}
 use Rattle.ptacl.specs.Value.{Value, v1, v0, vU}
-use Rattle.ptacl.specs.Values.{single, union, under, code, setOf, Targeted}
+use Rattle.ptacl.specs.Values.{single, union, under, code, setOf}
+use Rattle.ptacl.specs.Cases.{Targeted}
 use Rattle.ptacl.proofs.Codes.{code-small, of-code}
 use Rattle.ptacl.proofs.DecisionSet.targeted.Statement.{statement}
 use Rattle.ptacl.proofs.DecisionSet.targeted.Tie as tie
