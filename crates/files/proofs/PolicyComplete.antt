@@ -52,6 +52,6 @@ read-file p f =
     let s = policyFile p in
     let h : At s 3 (enc p) = record { rest = []; split = sym (append-nil (enc p)) } in
     unframed-whole 1 s _ (framed-whole (enc p))
-    ∙ ap (finish (length s))
+    ∙ ap (finish 8 (length s))
     (complete 255 s p 32 3 0 (length s) (nodes p) h (f .shallow) (omega (arith, f .few)) (omega arith) (omega arith))
     ∙ simp (le-ltb (length s) (length s) (omega arith))

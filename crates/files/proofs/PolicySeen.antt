@@ -129,17 +129,17 @@ module _ (most : ℕ) (b : List ℕ) (s : Sort) (left at nodes : ℕ) where
       within n true q e = record { its = n; byte = byte-found s _ n q; so = cc; behind = cc }
       within n false q e = never (cc)
 
-      go : (a : Bool) (x : Byte s) → byteAt s (getD b at 0) ≡ x → headOf (cond a (tagged (limitOf most left nodes) at x) (stop 4 (length b))) ≡ HeadC.Node g next
+      go : (a : Bool) (x : Byte s) → byteAt s (getD b at 0) ≡ x → headOf (cond a (tagged 5 (limitOf most left nodes) at (λ n. node n (at + 1)) x) (stop 4 (length b))) ≡ HeadC.Node g next
           → Tagged b s at g next
       go true (tag n) q e = within n (eqb (limitOf most left nodes) 0) q e
       go true unknown q e = never (cc)
       go false x q e = never (cc)
 
-  pub stop-within : (number place : ℕ) → headOf (headAt most b s left at nodes) ≡ HeadC.Stop number place → (number ≤ 7) × (place ≤ length b)
+  pub stop-within : (number place : ℕ) → headOf (headAt most b s left at nodes) ≡ HeadC.Stop number place → (number ≤ 8) × (place ≤ length b)
   stop-within number place = go (headAt most b s left at nodes) (byte-laws most b .head-told s left tt at nodes)
     where
       go : (h : Head s) → Told bytes most b (Faulty b) left tt at nodes h → headOf h ≡ HeadC.Stop number place
-          → (number ≤ 7) × (place ≤ length b)
+          → (number ≤ 8) × (place ≤ length b)
       go (node n q) w e = never (cc)
       go (stop m q) w e = let k : m ≡ number = cc in let l : q ≡ place = cc in (omega (arith, w .high), omega (arith, w .within))
 
@@ -189,7 +189,7 @@ abbrev pub seenFinish : ℕ → Scanned → PolicyRead
 seenFinish len (Scanned.Done next nodes) = cond (ltb next len) (PolicyRead.Refused 8 next) PolicyRead.Accepted
 seenFinish len (Scanned.Fault number place) = PolicyRead.Refused number place
 
-finished : (len : ℕ) (x : Scan Policy) → seenFinish len (seen x) ≡ policyRead (finish len x)
+finished : (len : ℕ) (x : Scan Policy) → seenFinish len (seen x) ≡ policyRead (finish 8 len x)
 finished len (done p next nodes) = go (ltb next len)
   where
     go : (c : Bool) → cond c (PolicyRead.Refused 8 next) PolicyRead.Accepted ≡ policyRead (cond c (refused 8 next) (accepted p))
@@ -206,7 +206,7 @@ pub record Ended (x : Scanned) : Type 0 where
   pub nodes : ℕ
   pub is : x ≡ Scanned.Done next nodes
 
-pub accepted-ended : (len : ℕ) (x : Scan Policy) → policyRead (finish len x) ≡ PolicyRead.Accepted → Ended (seen x)
+pub accepted-ended : (len : ℕ) (x : Scan Policy) → policyRead (finish 8 len x) ≡ PolicyRead.Accepted → Ended (seen x)
 accepted-ended len (done p next nodes) e = record { next = next; nodes = nodes; is = refl }
 accepted-ended len (fault number place) e = never (cc)
 
@@ -217,6 +217,6 @@ module _ (s : List ℕ) where
   file-refused e = sym (ap policyRead (refused-frame 1 s _ e))
 
   pub file-framed : frameOf (unframed 1 s (accepted tt)) ≡ Frame.Whole
-      → policyRead (finish (length s) (scan (inBytes 255 s) 32 policy tt 3 0)) ≡ policyRead (readPolicy s)
+      → policyRead (finish 8 (length s) (scan (inBytes 255 s) 32 policy tt 3 0)) ≡ policyRead (readPolicy s)
   unfolding readPolicy
   file-framed w = sym (ap policyRead (whole-frame 1 s _ w))

@@ -6,11 +6,12 @@ use mathlib.Core.List.{List, [], _∷_}
 use native.Mathlib.Omega.{arith}
 use lib.Dec.{ltb, eqb}
 use lib.ListN.{length, getD, drop}
-use borrow.Author.Tests.{ltb-true, eqb-true, eqb-false, lt-ltb, le-ltb, eq-eqb, ne-eqb}
+use borrow.Author.Tests.{ltb-true, eqb-true, eqb-false, lt-ltb, le-ltb, ne-eqb}
 use Rattle.ptacl.specs.Term.{Sort, target, policy, Node, anAtom, aDeny, anAllow, aTargeted, aNot, aDefault, anAnd, tagOf}
+use Rattle.ptacl.proofs.Bools.{either}
 use Rattle.files.specs.Encoding.{big, bytes, InRange, Bytes}
 use Rattle.files.specs.Refusal.{dec16}
-use Rattle.files.specs.Prefix.{node, stop, done, fault}
+use Rattle.files.specs.Prefix.{Head, node, stop, done, fault}
 use Rattle.files.specs.ReadPolicy.{Byte, tag, unknown, find, nodesOf, byteAt, limitOf, tagged, headAt, pairAt, inBytes}
 use Rattle.files.specs.Places.{At}
 use Rattle.files.proofs.BigEndian.{dec16-big, drop-big, dec16-range, big-dec16}
@@ -28,33 +29,29 @@ module _ (most : ℕ) (b : List ℕ) {s : Sort} (left at nodes : ℕ) where
   head-unknown h k = simp (lt-ltb _ _ h, k)
 
   module _ (n : Node s) (h : at < length b) (k : byteAt s (getD b at 0) ≡ tag n) where
-    pub head-deep : left ≡ 0 → headAt most b s left at nodes ≡ stop 6 at
+    pub head-limited : (limitOf most left nodes ≡ 0 → ⊥) → headAt most b s left at nodes ≡ stop (limitOf most left nodes) at
     unfolding headAt
-    head-deep e = simp (lt-ltb _ _ h, k, eq-eqb _ _ e)
+    head-limited e = rw (lt-ltb _ _ h, k, ne-eqb _ _ e)
 
-    pub head-many : (left ≡ 0 → ⊥) → most ≤ nodes → headAt most b s left at nodes ≡ stop 7 at
+    pub head-node : limitOf most left nodes ≡ 0 → headAt most b s left at nodes ≡ node n (at + 1)
     unfolding headAt
-    head-many e l = simp (lt-ltb _ _ h, k, ne-eqb _ _ e, le-ltb _ _ l)
+    head-node e = rw (lt-ltb _ _ h, k, e)
 
-    pub head-node : (left ≡ 0 → ⊥) → nodes < most → headAt most b s left at nodes ≡ node n (at + 1)
-    unfolding headAt
-    head-node e l = simp (lt-ltb _ _ h, k, ne-eqb _ _ e, lt-ltb _ _ l)
-
--- a byte that is found is the node's own
-found : {s : Sort} (ns : List (Node s)) (b : ℕ) (n : Node s) → find ns b ≡ tag n → b ≡ tagOf n
-found [] b n e = absurd (true≢false cc)
-found {s} (m ∷ ns) b n e = go (eqb b (tagOf m)) refl (found ns b n) e
+-- a node that is found meets the test
+pub found : {s : Sort} (test : Node s → Bool) (ns : List (Node s)) (n : Node s) → find test ns ≡ tag n → test n ≡ true
+found test [] n e = absurd (true≢false cc)
+found {s} test (m ∷ ns) n e = go (test m) refl (found test ns n) e
   where
     untag : tag m ≡ tag n → m ≡ n
     untag e = cc
 
-    go : (x : Bool) → eqb b (tagOf m) ≡ x → (find ns b ≡ tag n → b ≡ tagOf n) → cond x (tag m) (find ns b) ≡ tag n → b ≡ tagOf n
-    go true p f e = eqb-true _ _ p ∙ ap (λ (k : Node s). tagOf k) (untag e)
+    go : (x : Bool) → test m ≡ x → (find test ns ≡ tag n → test n ≡ true) → cond x (tag m) (find test ns) ≡ tag n → test n ≡ true
+    go true p f e = ap (λ (k : Node s). test k) (sym (untag e)) ∙ p
     go false p f e = f e
 
 pub byte-found : (s : Sort) (b : ℕ) (n : Node s) → byteAt s b ≡ tag n → b ≡ tagOf n
 unfolding byteAt
-byte-found s = found (nodesOf s)
+byte-found s b n e = eqb-true _ _ (found (λ n. eqb b (tagOf n)) (nodesOf s) n e)
 
 -- the limits at a node are kept, or it is 6 or 7
 data Limits (most left nodes number : ℕ) : Type 0 where
@@ -70,10 +67,24 @@ limits most left nodes = go (eqb left 0) (ltb nodes most) refl refl
     go true true p q = simp (p, q) (passed (omega arith) (omega arith))
     go true false p q = simp (p, q) (passed (omega arith) (omega arith))
 
--- a refusal is one of 4 to 7, at a place of the file
+pub limits-are : {most left nodes : ℕ} → 1 ≤ left → nodes < most → limitOf most left nodes ≡ 0
+limits-are {most} {left} {nodes} d f = simp (ne-eqb left 0 (λ e. omega arith), lt-ltb nodes most f)
+
+-- a property of a head, by its cases: it is strange, 6 or 7, or a node within the limits
+pub tagged-told : {s : Sort} (P : Head s → Type 0) {strange at : ℕ} {follows : Node s → Head s} (most left nodes : ℕ) (x : Byte s)
+    → P (stop strange at) → ((l : ℕ) → 6 ≤ l → l ≤ 7 → P (stop l at)) → ((n : Node s) → x ≡ tag n → 1 ≤ left → nodes < most → P (follows n))
+    → P (tagged strange (limitOf most left nodes) at follows x)
+tagged-told P most left nodes unknown f g h = f
+tagged-told P {at = at} {follows = follows} most left nodes (tag n) f g h = go (limits most left nodes)
+  where
+    go : {l : ℕ} → Limits most left nodes l → P (cond (eqb l 0) (follows n) (stop l at))
+    go (kept e d k) = rw e (h n refl d k)
+    go {l} (passed a c) = rw (ne-eqb l 0 (λ e. omega arith)) (g l a c)
+
+-- a refusal is one of 4 to 8, at a place of the file
 pub record Faulty (b : List ℕ) (number place : ℕ) : Type 0 where
   pub low : 4 ≤ number
-  pub high : number ≤ 7
+  pub high : number ≤ 8
   pub within : place ≤ length b
 
 -- every node is known by its byte
@@ -100,27 +111,22 @@ same-node {s} m n e = go (sym (known m) ∙ ap (byteAt s) e ∙ known n)
 module _ (most : ℕ) (b : List ℕ) where
   head-told : (s : Sort) (left : ℕ) (end : Unit {0}) (at k : ℕ) → Told bytes most b (Faulty b) left end at k (headAt most b s left at k)
   unfolding headAt
-  head-told s left end at k = go (ltb at (length b)) (byteAt s (getD b at 0)) (limitOf most left k) refl refl (limits most left k)
-    where
-      go : (a : Bool) (x : Byte s) (l : ℕ) → ltb at (length b) ≡ a → byteAt s (getD b at 0) ≡ x → Limits most left k l
-          → Told bytes most b (Faulty b) left end at k (cond a (tagged l at x) (stop 4 (length b)))
-      go true (tag n) l p q (kept e d f) =
-          let i = ltb-true at (length b) p in
-          rw e (record {
-            bytes = more b at i ∙ ap (λ (x : ℕ). x ∷ drop (at + 1) b) (byte-found s _ n q);
-            inside = omega arith;
-            shallow = d;
-            few = f;
-          })
-      go true (tag n) l p q (passed f g) =
-          let i = ltb-true at (length b) p in
-          rw (ne-eqb l 0 (λ e. omega arith)) (record { low = omega arith; high = omega arith; within = omega arith })
-      go true unknown l p q o = let i = ltb-true at (length b) p in record { low = omega arith; high = omega arith; within = omega arith }
-      go false x l p q o = record { low = omega arith; high = omega arith; within = omega arith }
+  head-told s left end at k = either (ltb at (length b))
+      (λ e. let i = ltb-true at (length b) e in rw e
+      (tagged-told (Told bytes most b (Faulty b) left end at k) most left k (byteAt s (getD b at 0))
+      (record { low = omega arith; high = omega arith; within = omega arith })
+      (λ l f g. record { low = omega arith; high = omega arith; within = omega arith })
+      (λ n q d f. record {
+        bytes = more b at i ∙ ap (λ (x : ℕ). x ∷ drop (at + 1) b) (byte-found s _ n q);
+        inside = omega arith;
+        shallow = d;
+        few = f;
+      })))
+      (λ e. rw e (record { low = omega arith; high = omega arith; within = omega arith }))
 
   head-reads : (s : Sort) (n : Node s) (left : ℕ) (end : Unit {0}) (at k : ℕ) → At b at (tagOf n ∷ []) → 1 ≤ left → k < most
       → headAt most b s left at k ≡ node n (at + 1)
-  head-reads s n left end at k h l m = head-node most b left at k n (room h) (ap (byteAt s) (head h) ∙ known n) (λ e. omega arith) m
+  head-reads s n left end at k h l m = head-node most b left at k n (room h) (ap (byteAt s) (head h) ∙ known n) (limits-are l m)
 
   pair-reads : (n v : ℕ) (end : Unit {0}) (at k : ℕ) → Unit {0} → At b at (big n (big v [])) → pairAt b at k ≡ done (n, v) (at + 4) k
   unfolding pairAt

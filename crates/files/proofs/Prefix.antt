@@ -2,17 +2,24 @@
 -- is read was written and is within the limits.
 use Prim.Native.Nat.{ℕ, zero, suc, _+_, _-_, _≤_, _<_, max}
 use mathlib.Core.Path.{_≡_, refl, sym, ap, _∙_}
-use mathlib.Core.List.{List, [], _∷_, _++_, append-assoc}
+use mathlib.Core.Bool.{Bool, true, false, cond}
+use mathlib.Core.List.{List, [], _∷_, _++_, append-assoc, append-nil}
 use native.Mathlib.Omega.{arith}
 use native.Mathlib.Numerals.{sub-one}
+use lib.Dec.{ltb}
 use lib.ListN.{length, drop, length-append}
+use lib.Seq.{drop-length}
+use borrow.Author.Tests.{ltb-false}
 use Rattle.ptacl.specs.Request.{Pair}
-use Rattle.ptacl.specs.Term.{Sort, Term, nodes, atoms}
+use Rattle.ptacl.specs.Term.{Sort, Term, Policy, nodes, atoms}
 use Rattle.ptacl.specs.Term.{Node, anAtom, aDeny, anAllow, aTargeted, aNot, aDefault, anAnd, Shape, numbers, leaf, one, two, shape}
 use Rattle.ptacl.proofs.Shapes.{Case, by-shape}
-use Rattle.files.specs.Encoding.{depth, InRange}
+use Rattle.files.specs.Encoding.{depth, InRange, Fits}
+use Rattle.files.specs.Refusal.{accepted, refused}
+use Rattle.files.specs.ReadPolicy.{finish}
 use Rattle.files.specs.Prefix.{Form, spell, Head, node, stop, Scan, done, fault, andThen, Reader, Subterms, below, body, scan}
 use Rattle.files.specs.Places.{At}
+use Rattle.files.proofs.Framing.{Gives}
 use Rattle.files.proofs.Places.{left, right}
 
 -- ---- what a reader owes
@@ -295,3 +302,18 @@ module _ {E : Type 0} (r : Reader E) (most : ℕ) (b : List ℕ) {Readable : Lis
   pub good : PairsTold r most b Fault → (deep : ℕ) (s : Sort) (end : E) (at k : ℕ) → at ≤ length b → Good deep end at k (scan r deep s end at k)
   good pairs zero = good-step pairs 0 (λ l. absurd (omega arith))
   good pairs (suc deep) = good-step pairs (suc deep) (λ l. rw (sub-one (suc deep)) (good pairs deep))
+
+  -- ---- a policy that ends where the bytes end
+
+  pub finished : (excess : ℕ) → ((place : ℕ) → place ≤ length b → Fault excess place) → most ≤ 255 → (end : E) (at : ℕ) (x : Scan Policy)
+      → Good 32 end at 0 x → Gives (λ p. (drop at b ≡ spell (r .form) end p) × Fits p) Fault (finish excess (length b) x)
+  finished excess left few end at (fault number place) g = g
+  finished excess left few end at (done p next count) g = go (ltb next (length b)) refl
+    where
+      go : (c : Bool) → ltb next (length b) ≡ c
+          → Gives (λ p. (drop at b ≡ spell (r .form) end p) × Fits p) Fault (cond c (refused excess next) (accepted p))
+      go true e = left next (g .inside)
+      go false e =
+          let n : next ≡ length b = omega (arith, ltb-false next (length b) e, g .inside) in
+          (g .bytes ∙ ap (λ (m : ℕ). spell (r .form) end p ++ drop m b) n ∙ simp (drop-length, append-nil),
+          record { few = omega (arith, g .counted, g .few); shallow = g .shallow; range = g .range })

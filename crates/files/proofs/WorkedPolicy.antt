@@ -77,5 +77,5 @@ longest-file rest e =
     let s : List ℕ = 1 ∷ 255 ∷ 255 ∷ 0x20 ∷ rest in
     let h : At s 3 (enc deny) = record { rest = rest; split = refl } in
     unframed-whole 1 s _ (record { long = omega arith; version = refl; stated = omega arith })
-    ∙ ap (finish (length s)) (complete 255 s deny 32 3 0 4 1 h (omega arith) (omega arith) (omega arith) (omega arith))
+    ∙ ap (finish 8 (length s)) (complete 255 s deny 32 3 0 4 1 h (omega arith) (omega arith) (omega arith) (omega arith))
     ∙ simp (lt-ltb 4 (length s) (omega arith))

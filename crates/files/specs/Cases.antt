@@ -66,7 +66,7 @@ policyRead (refused number place) = PolicyRead.Refused number place
 
 -- the answer for the file of that length whose body's scan a number tells
 pub record Finishes (len w : ℕ) (r : PolicyRead) : Type 0 where
-  pub back : (x : Scan Policy) → Scans (seen x) w → r ≡ policyRead (finish len x)
+  pub back : (x : Scan Policy) → Scans (seen x) w → r ≡ policyRead (finish 8 len x)
 
 abbrev pub frameOf : Read (Unit {0}) → Frame
 frameOf (accepted u) = Frame.Whole

@@ -1,6 +1,6 @@
 -- Document 01, "Refusal numbers": reading a policy file, with the first refusal in the document's order.
 use Prim.Native.Nat.{ℕ, _+_}
-use mathlib.Core.Bool.{cond}
+use mathlib.Core.Bool.{Bool, cond}
 use mathlib.Core.List.{List, [], _∷_}
 use lib.Dec.{eqb, ltb}
 use lib.ListN.{length, getD}
@@ -20,25 +20,27 @@ pub data Byte (s : Sort) : Type 0 where
   tag : Node s → Byte s
   unknown : Byte s
 
-abbrev pub find : {s : Sort} → List (Node s) → ℕ → Byte s
-find [] b = unknown
-find (n ∷ ns) b = cond (eqb b (tagOf n)) (tag n) (find ns b)
+-- the first node that meets a test
+abbrev pub find : {s : Sort} → (Node s → Bool) → List (Node s) → Byte s
+find test [] = unknown
+find test (n ∷ ns) = cond (test n) (tag n) (find test ns)
 
 unfoldable pub byteAt : (s : Sort) → ℕ → Byte s
-byteAt s b = find (nodesOf s) b
+byteAt s b = find (λ n. eqb b (tagOf n)) (nodesOf s)
 
 -- a node with that much depth left and that many nodes before it, of most: 6, 7, or 0 for neither
 abbrev pub limitOf : ℕ → ℕ → ℕ → ℕ
 limitOf most left nodes = cond (eqb left 0) 6 (cond (ltb nodes most) 0 7)
 
-abbrev pub tagged : {s : Sort} → ℕ → ℕ → Byte s → Head s
-tagged number at (tag t) = cond (eqb number 0) (node t (at + 1)) (stop number at)
-tagged number at unknown = stop 5 at
+-- at one node: that it is none of the sort's, then 6, 7, then what follows
+abbrev pub tagged : {s : Sort} → ℕ → ℕ → ℕ → (Node s → Head s) → Byte s → Head s
+tagged strange number at follows unknown = stop strange at
+tagged strange number at follows (tag n) = cond (eqb number 0) (follows n) (stop number at)
 
--- at one node: 4 (no tag), 5, 6, 7
+-- 4 (no tag), 5, 6, 7
 unfoldable pub headAt : ℕ → List ℕ → (s : Sort) → ℕ → ℕ → ℕ → Head s
 headAt most b s left at nodes =
-    cond (ltb at (length b)) (tagged (limitOf most left nodes) at (byteAt s (getD b at 0))) (stop 4 (length b))
+    cond (ltb at (length b)) (tagged 5 (limitOf most left nodes) at (λ n. node n (at + 1)) (byteAt s (getD b at 0))) (stop 4 (length b))
 
 -- the four bytes of an atom's numbers; 4 (atom cut) where they are not there
 unfoldable pub pairAt : List ℕ → ℕ → ℕ → Scan Pair
@@ -48,11 +50,11 @@ pairAt b at nodes = cond (ltb (at + 3) (length b)) (done (dec16 b at, dec16 b (a
 abbrev pub inBytes : ℕ → List ℕ → Reader (Unit {0})
 inBytes most b = record { form = bytes; head = λ s left e at k. headAt most b s left at k; pair = λ e at k. pairAt b at k }
 
--- bytes after the finished policy are 8
-abbrev pub finish : ℕ → Scan Policy → Read Policy
-finish len (done p next nodes) = cond (ltb next len) (refused 8 next) (accepted p)
-finish len (fault number place) = refused number place
+-- what follows the finished policy, up to that length, is refused with that number
+abbrev pub finish : ℕ → ℕ → Scan Policy → Read Policy
+finish excess len (done p next nodes) = cond (ltb next len) (refused excess next) (accepted p)
+finish excess len (fault number place) = refused number place
 
 -- 1, 2, 3, then 4 to 8 as met from left to right
 unfoldable pub readPolicy : List ℕ → Read Policy
-readPolicy s = unframed 1 s (finish (length s) (scan (inBytes 255 s) 32 policy tt 3 0))
+readPolicy s = unframed 1 s (finish 8 (length s) (scan (inBytes 255 s) 32 policy tt 3 0))

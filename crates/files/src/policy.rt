@@ -4,7 +4,7 @@ ghost use Prim.Native.Nat.{_<_, _≤_};
 ghost use lib.ListN.{length};
 ghost use Rattle.ptacl.specs.Term.{target, policy};
 ghost use Rattle.files.specs.Prefix.{scan};
-ghost use Rattle.files.specs.ReadPolicy.{byteAt, headAt, pairAt, inBytes, readPolicy};
+ghost use Rattle.files.specs.ReadPolicy.{byteAt, limitOf, headAt, pairAt, inBytes, readPolicy};
 ghost use Rattle.files.specs.Places.{PolicyFile, BodyOf};
 ghost use Rattle.files.specs.Cases.{sortOf, byteOf, headOf, seen, wordOf, Small, Scans, Tells, Finishes, policyRead};
 use crate::frame;
@@ -78,13 +78,26 @@ fn policy_byte(b: u8) -> Byte
     }
 }
 
-fn byte_at(sort: Sort, b: u8) -> Byte
+pub fn byte_at(sort: Sort, b: u8) -> Byte
     ensures { λ r. ⌜ r ≡ byteOf (byteAt (sortOf sort) b) ⌝ }
 {
     match sort {
         Sort::Target => target_byte(b),
         Sort::Policy => policy_byte(b),
     }
+}
+
+// What refuses a node with this much depth left and this many nodes before it: 6, 7, or 0 for neither.
+pub fn limit(left: usize, nodes: usize) -> u8
+    ensures { λ r. ⌜ r ≡ limitOf 255 left nodes ⌝ }
+{
+    if left == 0 {
+        return 6;
+    }
+    if 255 <= nodes {
+        return 7;
+    }
+    0
 }
 
 pub fn head_at(file: &[u8], sort: Sort, left: usize, at: usize, nodes: usize) -> Head
@@ -98,17 +111,9 @@ pub fn head_at(file: &[u8], sort: Sort, left: usize, at: usize, nodes: usize) ->
     }
     match byte_at(sort, file[at]) {
         Byte::Tag(shape) => {
-            if left == 0 {
-                return Head::Stop {
-                    number: 6,
-                    place: at,
-                };
-            }
-            if 255 <= nodes {
-                return Head::Stop {
-                    number: 7,
-                    place: at,
-                };
+            let number = limit(left, nodes);
+            if number != 0 {
+                return Head::Stop { number, place: at };
             }
             Head::Node {
                 shape,

@@ -7,7 +7,7 @@ use borrow.Author.Needs.{needs}
 use Rattle.files.specs.ReadPolicy.{byteAt}
 use Rattle.files.specs.Cases.{sortOf, headOf}
 use Rattle.files.specs.declared.policy.Head.{Head}
-use Rattle.files.proofs.PolicySteps.{head-cut, head-unknown, head-deep, head-many, head-node}
+use Rattle.files.proofs.PolicySteps.{head-cut, head-unknown, head-limited, head-node}
 use Rattle.files.proofs.PolicySeen.{Names, byte-tag, byte-unknown}
 use Rattle.files.proofs.policy.head_at.Statement.{statement}
 use Rattle.files.proofs.policy.head_at.Tie as tie
@@ -29,22 +29,19 @@ inside c = omega (arith, c .before .before .before .before .if1 .left)
 
 returns-2 : tie.Need-returns-2
 returns-2 c =
-    let d = c .before .before in
-    ap (λ h. headOf h) (sym (head-deep _ _ _ _ _ (named d .its) (inside d) (named d .is) (c .if2 .taken)))
+    let d = c .before .before .before in
+    let e = c .before .limit .ensures in
+    ap (λ n. Head.Stop n (d .before .before .before .before .before .before .args .at)) e
+    ∙ ap (λ h. headOf h) (sym (head-limited _ _ _ _ _ (named d .its) (inside d) (named d .is) (λ z. c .if2 .taken (e ∙ z))))
 
 returns-3 : tie.Need-returns-3
 returns-3 c =
     let d = c .before .before .before in
-    ap (λ h. headOf h) (sym (head-many _ _ _ _ _ (named d .its) (inside d) (named d .is) (c .before .if2 .left) (c .if3 .taken)))
+    ap (λ g. Head.Node g (d .before .before .before .before .before .before .args .at + 1)) (sym (named d .so))
+    ∙ ap (λ h. headOf h) (sym (head-node _ _ _ _ _ (named d .its) (inside d) (named d .is) (sym (c .before .limit .ensures) ∙ c .if2 .left)))
 
 returns-4 : tie.Need-returns-4
 returns-4 c =
-    let d = c .before .before .before in
-    ap (λ g. Head.Node g (d .before .before .before .before .before .before .args .at + 1)) (sym (named d .so))
-    ∙ ap (λ h. headOf h) (sym (head-node _ _ _ _ _ (named d .its) (inside d) (named d .is) (c .before .if2 .left) (omega (arith, c .if3 .left))))
-
-returns-5 : tie.Need-returns-5
-returns-5 c =
     let d = c .before .before in
     let e = byte-unknown _ (sym (d .byte-at .ensures) ∙ c .enum-told .given .1) in
     ap (λ h. headOf h) (sym (head-unknown _ _ _ _ _ (d .before .before .if1 .left) e))
@@ -57,9 +54,9 @@ head-at-spec =
     (λ c. search needs)
     (λ c κs. search needs)
     (λ c. search needs)
+    (λ c κs. search needs)
     returns-2
+    (λ c. search needs)
+    (λ c. search needs)
     returns-3
-    (λ c. search needs)
-    (λ c. search needs)
-    returns-4
-    returns-5)
+    returns-4)
