@@ -67,7 +67,7 @@ seen-two : {A B C : Type 0} (x : Scan A) (y : ℕ → ℕ → Scan B) (f : A →
 seen-two (done t a k) y f = seen-one (y a k) (f t)
 seen-two (fault n p) y f = refl
 
-named-sort : (r : Sort) → sortOf (sortName r) ≡ r
+pub named-sort : (r : Sort) → sortOf (sortName r) ≡ r
 named-sort target = refl
 named-sort policy = refl
 

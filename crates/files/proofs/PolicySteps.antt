@@ -88,7 +88,7 @@ pub record Faulty (b : List ℕ) (number place : ℕ) : Type 0 where
   pub within : place ≤ length b
 
 -- every node is known by its byte
-known : {s : Sort} (n : Node s) → byteAt s (tagOf n) ≡ tag n
+pub known : {s : Sort} (n : Node s) → byteAt s (tagOf n) ≡ tag n
 unfolding byteAt
 known anAtom = refl
 known aDeny = refl

@@ -314,6 +314,7 @@ module _ {E : Type 0} (r : Reader E) (most : ℕ) (b : List ℕ) {Readable : Lis
           → Gives (λ p. (drop at b ≡ spell (r .form) end p) × Fits p) Fault (cond c (refused excess next) (accepted p))
       go true e = left next (g .inside)
       go false e =
-          let n : next ≡ length b = omega (arith, ltb-false next (length b) e, g .inside) in
-          (g .bytes ∙ ap (λ (m : ℕ). spell (r .form) end p ++ drop m b) n ∙ simp (drop-length, append-nil),
-          record { few = omega (arith, g .counted, g .few); shallow = g .shallow; range = g .range })
+          let n : next ≡ length b = omega (arith, ltb-false next (length b) e, g .inside) in (
+            g .bytes ∙ ap (λ (m : ℕ). spell (r .form) end p ++ drop m b) n ∙ simp (drop-length, append-nil),
+            record { few = omega (arith, g .counted, g .few); shallow = g .shallow; range = g .range },
+          )

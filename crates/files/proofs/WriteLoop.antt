@@ -1,16 +1,39 @@
--- The loop that writes a request's pairs behind the frame: the file with the first i pairs is at the front of the space.
+-- The loop that copies bytes to a place, and the loop that writes a request's pairs behind the frame: the first i are there.
 use Prim.Native.Nat.{ℕ, _+_, _*_, _≤_, _<_}
 use mathlib.Core.Path.{_≡_, refl, sym, ap, _∙_}
 use mathlib.Core.List.{List, [], _∷_, _++_, map, map-append}
+use native.Mathlib.Nat.{add-zero}
 use native.Mathlib.Numerals.{add-one}
 use native.Mathlib.Omega.{arith}
-use lib.ListN.{length, take, getD, length-map}
+use lib.ListN.{length, take, getD, set, length-map, length-set}
 use lib.Seq.{take-suc, take-all, length-take-le}
 use Rattle.ptacl.specs.Request.{Request}
 use Rattle.ptacl.specs.Pairs.{unpacked}
 use Rattle.files.specs.Encoding.{big, framed, pairBytes, requestFile}
-use Rattle.files.specs.Memory.{put, over}
-use Rattle.files.proofs.Memory.{over-over, over-put, body-length}
+use Rattle.files.specs.Memory.{put, over, Puts}
+use Rattle.files.proofs.Memory.{over-over, over-put, puts-none, puts-byte, puts-then, body-length}
+
+pub record Copying (from before space : List ℕ) (to i : ℕ) : Type 0 where
+  pub most : i ≤ length from
+  pub size : length space ≡ length before
+  pub part : Puts (take i from) to before space (to + i)
+
+module _ {from before : List ℕ} {to : ℕ} where
+  pub copying-start : Copying from before before to 0
+  copying-start = record { most = omega arith; size = refl; part = rw (add-zero to) puts-none }
+
+  module _ (r : to + length from ≤ length before) {space : List ℕ} {i : ℕ} (c : Copying from before space to i) where
+    pub copying-more : i < length from → Copying from before (set space (to + i) (getD from i 0)) to (i + 1)
+    copying-more h =
+        let p = puts-then (c .part) (omega (arith, length-take-le i from (c .most))) (puts-byte (getD from i 0) (omega (arith, c .size))) in
+        record {
+          most = omega arith;
+          size = length-set space (to + i) (getD from i 0) ∙ c .size;
+          part = rw (add-one i, take-suc from i 0 h) (record { last = omega (arith, p .last); memory = p .memory });
+        }
+
+    pub copying-end : length from ≤ i → Puts from to before space (to + i)
+    copying-end h = rw (take-all i from h) at (c .part)
 
 -- the frame of the whole file and the bytes of its first i pairs
 abbrev begun : List ℕ → ℕ → List ℕ

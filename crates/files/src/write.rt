@@ -1,14 +1,27 @@
-// Writing request files into lent memory.
+// Writing into lent memory: bytes, pairs, a file's frame, request files.
 ghost use mathlib.Core.Path.{_≡_};
 ghost use mathlib.Core.List.{[], _∷_, _++_, map};
 ghost use Prim.Native.Nat.{_+_, _*_, _≤_};
 ghost use lib.ListN.{length};
 ghost use Rattle.ptacl.specs.Pairs.{unpacked};
 ghost use Rattle.files.specs.Encoding.{big, pairBytes, requestFile};
-ghost use Rattle.files.specs.Memory.{put, over};
+ghost use Rattle.files.specs.Memory.{put, over, Puts};
+
+// The bytes of `from` at `to`: the place behind them.
+pub fn copy(from: &[u8], space: &mut [u8], to: usize) -> usize
+    requires { ⌜ to + length (now from) ≤ length (now space) ⌝ }
+    ensures { λ r. ⌜ Puts (now (from .entry)) to (now (space .entry)) (now (space .exit)) r ⌝ }
+{
+    let mut i = 0;
+    while i < from.len() {
+        space[to + i] = from[i];
+        i += 1;
+    }
+    to + i
+}
 
 // The four bytes of a pair at `at`.
-fn put_pair(space: &mut [u8], at: usize, pair: u32)
+pub fn put_pair(space: &mut [u8], at: usize, pair: u32)
     requires { ⌜ at + 4 ≤ length (now space) ⌝ }
     ensures { λ _. ⌜ now (space .exit) ≡ put at (pairBytes (unpacked pair ∷ [])) (now (space .entry)) ⌝ }
 {
@@ -19,7 +32,7 @@ fn put_pair(space: &mut [u8], at: usize, pair: u32)
 }
 
 // The version byte and the body's length.
-fn put_frame(space: &mut [u8], body: usize)
+pub fn put_frame(space: &mut [u8], body: usize)
     requires { ⌜ (3 ≤ length (now space)) × (body ≤ 65535) ⌝ }
     ensures { λ _. ⌜ now (space .exit) ≡ over (1 ∷ big body []) (now (space .entry)) ⌝ }
 {

@@ -1,8 +1,10 @@
--- Two tests that agree at every value of a finite type, which is computed, agree.
+-- Two tests that agree at every value of a finite type, which is computed, agree. A test that passes at every node, which is computed,
+-- passes at each.
 use mathlib.Core.Path.{_≡_, refl, sym}
 use mathlib.Core.Bool.{Bool, true, false, _&&_, Bool·beq}
 use Rattle.ptacl.specs.Value.{Value, v1, v0, vU}
 use Rattle.ptacl.specs.Values.{Values}
+use Rattle.ptacl.specs.Term.{Sort, target, policy, Node, anAtom, aDeny, anAllow, aTargeted, aNot, aDefault, anAnd}
 use Rattle.ptacl.proofs.Bools.{and-left, and-right}
 
 -- a test of all values, and that it tells of each
@@ -46,3 +48,27 @@ module _ {A : Type 0} (F : Finite A) where
   module _ {B : Type 0} (G : Finite B) where
     pub by2 : (f g : A → B → Bool) → F .all (λ a. G .all (λ b. Bool·beq (f a b) (g a b))) ≡ true → (a : A) (b : B) → f a b ≡ g a b
     by2 f g h a b = beq-equal (G .at (λ b. Bool·beq (f a b) (g a b)) (F .at (λ a. G .all (λ b. Bool·beq (f a b) (g a b))) h a) b)
+
+abbrev bothSorts : (Sort → Bool) → Bool
+bothSorts f = f target && f policy
+
+at-sort : (f : Sort → Bool) → bothSorts f ≡ true → (s : Sort) → f s ≡ true
+at-sort f h target = and-left _ h
+at-sort f h policy = and-right (f target) h
+
+-- of one sort, and of either
+abbrev outer : ((s : Sort) → Node s → Bool) → Bool
+outer f = f target anAtom && (f policy aDeny && (f policy anAllow && f policy aTargeted))
+
+abbrev inner : ((s : Sort) → Node s → Bool) → Bool
+inner f = bothSorts (λ s. f s (aNot s)) && (bothSorts (λ s. f s (aDefault s)) && bothSorts (λ s. f s (anAnd s)))
+
+pub at-node : (f : (s : Sort) → Node s → Bool) → (outer f && inner f) ≡ true → {s : Sort} (n : Node s) → f s n ≡ true
+at-node f h anAtom = and-left _ (and-left (inner f) h)
+at-node f h aDeny = and-left _ (and-right (f target anAtom) (and-left (inner f) h))
+at-node f h anAllow = and-left _ (and-right (f policy aDeny) (and-right (f target anAtom) (and-left (inner f) h)))
+at-node f h aTargeted = and-right (f policy anAllow) (and-right (f policy aDeny) (and-right (f target anAtom) (and-left (inner f) h)))
+at-node f h (aNot s) = at-sort (λ s. f s (aNot s)) (and-left _ (and-right (outer f) h)) s
+at-node f h (aDefault s) = at-sort (λ s. f s (aDefault s)) (and-left _ (and-right (bothSorts (λ s. f s (aNot s))) (and-right (outer f) h))) s
+at-node f h (anAnd s) =
+    at-sort (λ s. f s (anAnd s)) (and-right (bothSorts (λ s. f s (aDefault s))) (and-right (bothSorts (λ s. f s (aNot s))) (and-right (outer f) h))) s
