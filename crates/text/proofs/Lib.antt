@@ -1,0 +1,13 @@
+pub mod Runs
+pub mod Decimal
+pub mod WordLaws
+pub mod TextExact
+pub mod Near
+pub mod Worked
+pub mod Loops
+pub mod Table
+pub mod Writing
+pub mod Numbers
+pub mod Heads
+pub mod Conversion
+pub mod Ways

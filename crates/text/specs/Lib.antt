@@ -1,0 +1,4 @@
+pub mod Words
+pub mod Line
+pub mod ReadText
+pub mod Cases
