@@ -5,7 +5,7 @@ use crate::arrays::wide;
 use sinkheron::Certified;
 use sinkheron::Decision;
 use sinkheron::Listing;
-use sinkheron::Normalised;
+use sinkheron::Output;
 use sinkheron::Searched;
 
 pub fn decide(policy: &[u8], request: &[u8]) -> Answer {
@@ -30,8 +30,8 @@ pub fn normal_form(policy: &[u8], request: &[u8], space: &mut [u8], room: usize)
         return answer::refused(99, 0);
     }
     match sinkheron::normal_form(policy, request, &mut space[..room]) {
-        Normalised::Refused { number, place } => answer::refused(wide(number), place),
-        Normalised::Written { bytes } => answer::written(bytes),
+        Output::Refused { number, place } => answer::refused(wide(number), place),
+        Output::Written { bytes } => answer::written(bytes),
     }
 }
 

@@ -2,7 +2,7 @@ pub mod Taken
 pub mod Written
 pub mod DecideOne
 pub mod ListPairsOne
-pub mod NormalFormOne
+pub mod OutputOne
 pub mod CertifyOne
 pub mod SearchOne
 pub mod Worked
@@ -10,3 +10,4 @@ pub mod Ranges
 pub mod OneOutcome
 pub mod WordOne
 pub mod Handed
+pub mod Texts

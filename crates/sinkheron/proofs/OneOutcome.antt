@@ -9,8 +9,9 @@ use Rattle.ptacl.proofs.Bools.{clash}
 use Rattle.files.specs.Refusal.{Read, accepted}
 use Rattle.files.proofs.PolicyExact.{policy-reads}
 use Rattle.files.proofs.RequestExact.{request-reads}
+use Rattle.text.proofs.TextExact.{text-reads}
 use Rattle.sinkheron.specs.Answer.{Answer, refusal, Promise, OneOutcome}
-use Rattle.sinkheron.specs.Ways.{OfPolicy, OfRequest, Reads, unread, holding, The, the, RefusedIf, stops, passes, Gives, gives}
+use Rattle.sinkheron.specs.Ways.{OfPolicy, OfText, OfRequest, Reads, unread, holding, The, the, RefusedIf, stops, passes, Gives, gives}
 use Rattle.sinkheron.proofs.Ranges.{Ranged}
 
 -- any two outcomes are equal
@@ -44,6 +45,9 @@ module _ {A M : Type 0} where
 
   pub policy-one : {policy : List ℕ} {before : M} {follows : Policy → Promise A M} → ((p : Policy) → One (follows p)) → One (OfPolicy policy before follows)
   policy-one o = reads-one (λ p f. policy-reads f) o
+
+  pub text-one : {text : List ℕ} {before : M} {follows : Policy → Promise A M} → ((p : Policy) → One (follows p)) → One (OfText text before follows)
+  text-one o = reads-one (λ p f. text-reads f) o
 
   pub request-one : {request : List ℕ} {before : M} {follows : Request → Promise A M} → ((q : Request) → One (follows q)) → One (OfRequest request before follows)
   request-one o = reads-one (λ q f. request-reads 21 f) o

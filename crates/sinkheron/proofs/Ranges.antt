@@ -27,13 +27,18 @@ use Rattle.files.specs.Refusal.{Read, refused}
 use Rattle.files.proofs.Memory.{request-length}
 use Rattle.files.proofs.PolicyExact.{refused-place}
 use Rattle.files.proofs.RequestExact.{request-refused-range}
+use Rattle.text.specs.Line.{IsText}
+use Rattle.text.proofs.Near.{line-short, file-short, text-refused}
 use Rattle.search.specs.Found.{twoFiles, exposureFiles}
 use Rattle.search.proofs.Chosen.{subset-most, subset-less}
 use Rattle.sinkheron.specs.Answer.{Answer, refusal, success, Promise}
-use Rattle.sinkheron.specs.Ways.{OfPolicy, OfRequest, Reads, unread, holding, The, the, RefusedIf, stops, passes, Gives, gives}
+use Rattle.sinkheron.specs.Ways.{OfPolicy, OfText, OfRequest, Reads, unread, holding, The, the, RefusedIf, stops, passes, Gives, gives}
 use Rattle.sinkheron.specs.Decide as D
 use Rattle.sinkheron.specs.ListPairs as L
+use Rattle.sinkheron.specs.Output.{Small}
 use Rattle.sinkheron.specs.NormalForm as N
+use Rattle.sinkheron.specs.ReadText as T
+use Rattle.sinkheron.specs.WriteText as W
 use Rattle.sinkheron.specs.Certify as C
 use Rattle.sinkheron.specs.Search as S
 
@@ -65,6 +70,10 @@ module _ {A M : Type 0} {can : A → Type 0} where
   policy-ranged : {policy : List ℕ} {before : M} {follows : Policy → Promise A M}
       → Bytes policy → ((p : Policy) → IsPolicy policy p → Ranged can (follows p)) → Ranged can (OfPolicy policy before follows)
   policy-ranged b o = reads-ranged (λ n at e. refused-place e b) o
+
+  text-ranged : {text : List ℕ} {before : M} {follows : Policy → Promise A M}
+      → ((p : Policy) → IsText text p → Ranged can (follows p)) → Ranged can (OfText text before follows)
+  text-ranged {text} o = reads-ranged (λ n at e. let r = text-refused text e in (r .0, r .1, omega (arith, r .2))) o
 
   request-ranged : {request : List ℕ} {before : M} {follows : Request → Promise A M}
       → ((q : Request) → IsRequest request q → Ranged can (follows q)) → Ranged can (OfRequest request before follows)
@@ -116,6 +125,18 @@ pub normal-form-ranged : {s q before : List ℕ} → Bytes s → Ranged (λ k. k
 normal-form-ranged b =
     policy-ranged b (λ p f. request-ranged (λ q g. the-ranged (λ r h. refused-if-ranged refl (λ e.
     gives-ranged (λ k. k ≤ 1019) (omega (arith, request-length r, normal-254 p (f .fits .few) h))))))
+
+-- a policy file, a line
+pub read-text-ranged : {text before : List ℕ} → Ranged (λ k. k ≤ 4593) (T.ReadsText text before)
+read-text-ranged = text-ranged (λ p f. refused-if-ranged refl (λ e. gives-ranged (λ k. k ≤ 4593) (file-short (f .fits))))
+
+pub write-text-ranged : {s before : List ℕ} → Bytes s → Ranged (λ k. k ≤ 4590) (W.WritesText s before)
+write-text-ranged b = policy-ranged b (λ p f. refused-if-ranged refl (λ e. gives-ranged (λ k. k ≤ 4590) (line-short (f .fits))))
+
+-- whatever was written, its length has room in its bits
+pub output-small : (most : ℕ) → most ≤ 65535 → (x : Answer ℕ) → Range (λ k. k ≤ most) x → Small x
+output-small most l (refusal n at) r = r .2
+output-small most l (success k) r = omega arith
 
 numbers-most : {m : ℕ} (k : ℕ) → m < 2 ^ k → k ≤ 16 → m < 65536
 numbers-most k l h = elim (decLt k 16) [

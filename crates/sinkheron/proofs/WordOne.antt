@@ -9,10 +9,13 @@ use Rattle.files.specs.Encoding.{Bytes}
 use Rattle.sinkheron.specs.Answer.{Answer, refusal, success, Promise, OneOutcome, word, Says}
 use Rattle.sinkheron.specs.Decide as D
 use Rattle.sinkheron.specs.ListPairs as L
+use Rattle.sinkheron.specs.Output as O
 use Rattle.sinkheron.specs.NormalForm as N
+use Rattle.sinkheron.specs.ReadText as T
+use Rattle.sinkheron.specs.WriteText as W
 use Rattle.sinkheron.specs.Certify as C
 use Rattle.sinkheron.specs.Search as S
-use Rattle.sinkheron.proofs.Ranges.{Range, Ranged, decide-ranged, list-pairs-ranged, normal-form-ranged, certify-ranged, Can, search-ranged}
+use Rattle.sinkheron.proofs.Ranges.{Range, Ranged, decide-ranged, list-pairs-ranged, normal-form-ranged, read-text-ranged, write-text-ranged, certify-ranged, Can, search-ranged}
 
 -- where a promise leaves one outcome, so does the C face
 pub says-one : {E A M : Type 0} {answerOf : E → Answer A} {permits : Promise A M} {bits : A → ℕ} {m m' : M} {w w' : ℕ}
@@ -66,8 +69,11 @@ module _ {s s' : List ℕ} (b : Bytes s) (b' : Bytes s') where
   list-pairs-word-one = word-one (one-value 8) (list-pairs-ranged b) (list-pairs-ranged b')
 
   pub normal-form-word-one : {q m n q' m' n' : List ℕ} {x y : Answer ℕ} → N.Normalises s q m x n → N.Normalises s' q' m' y n'
-      → word N.bits x ≡ word N.bits y → x ≡ y
+      → word O.bits x ≡ word O.bits y → x ≡ y
   normal-form-word-one = word-one (one-value 24) (normal-form-ranged b) (normal-form-ranged b')
+
+  pub write-text-word-one : {m n m' n' : List ℕ} {x y : Answer ℕ} → W.WritesText s m x n → W.WritesText s' m' y n' → word O.bits x ≡ word O.bits y → x ≡ y
+  write-text-word-one = word-one (one-value 24) (write-text-ranged b) (write-text-ranged b')
 
   pub search-word-one : {m n m' n' : List ℕ} {x y : Answer S.Values} → S.Searches s m x n → S.Searches s' m' y n' → word S.bits x ≡ word S.bits y → x ≡ y
   search-word-one = word-one (record { free = λ v. omega arith; apart = same }) (search-ranged b) (search-ranged b')
@@ -84,3 +90,6 @@ module _ {s s' : List ℕ} (b : Bytes s) (b' : Bytes s') where
           let d = digit 8 (omega (arith, f .bytes)) (omega (arith, g .bytes)) (c .1) in
           let m = digit 16 (f .subset) (g .subset) (d .1) in
           λ i. record { verdict = a .0 i; pairs = c .0 i; subset = m .0 i; hides = m .1 i; bytes = d .0 i }
+
+pub read-text-word-one : {s m n s' m' n' : List ℕ} {x y : Answer ℕ} → T.ReadsText s m x n → T.ReadsText s' m' y n' → word O.bits x ≡ word O.bits y → x ≡ y
+read-text-word-one = word-one (one-value 24) read-text-ranged read-text-ranged

@@ -3,7 +3,10 @@ pub mod Answer
 pub mod Ways
 pub mod Decide
 pub mod ListPairs
+pub mod Output
 pub mod NormalForm
+pub mod ReadText
+pub mod WriteText
 pub mod Certify
 pub mod Search
 pub mod Handed

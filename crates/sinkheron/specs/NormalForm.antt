@@ -1,20 +1,11 @@
 -- The promise of normal_form.
-use Prim.Native.Nat.{ℕ, _*_, _^_}
+use Prim.Native.Nat.{ℕ}
 use mathlib.Core.List.{List}
 use Rattle.ptacl.specs.Term.{atoms}
 use Rattle.ptacl.specs.Pairs.{IsNormal}
 use Rattle.files.specs.Encoding.{requestFile}
-use Rattle.sinkheron.specs.Answer.{Answer, refusal, success, Promise}
+use Rattle.sinkheron.specs.Answer.{Promise}
 use Rattle.sinkheron.specs.Ways.{OfPolicy, OfRequest, The, Writes}
-use Rattle.sinkheron.specs.declared.Normalised.{Normalised}
-
--- the file's length; at the C face in bits 32 to 47
-abbrev pub answerOf : Normalised → Answer ℕ
-answerOf (Normalised.Refused n at) = refusal n at
-answerOf (Normalised.Written k) = success k
-
-abbrev pub bits : ℕ → ℕ
-bits k = k * 2 ^ 32
 
 -- the policy's refusals; the request's; 13 or the file of the normal form; with the lent space before and after
 abbrev pub Normalises : List ℕ → List ℕ → List ℕ → Promise ℕ (List ℕ)

@@ -1,5 +1,5 @@
--- The ways a call can end. A promise is a nest of them, in document 01's order of refusals ("Refusal numbers"): the policy file first,
--- then the request file, then 12, 13, 14. `before` is what the lent memory held; a refusal leaves it so.
+-- The ways a call can end. A promise is a nest of them, in document 01's order of refusals ("Refusal numbers"): the policy file or text
+-- first, then the request file, then 12, 13, 14. `before` is what the lent memory held; a refusal leaves it so.
 use Prim.Native.Nat.{ℕ}
 use mathlib.Core.Path.{_≡_}
 use mathlib.Core.Bool.{Bool, true, false}
@@ -13,6 +13,8 @@ use Rattle.files.specs.Refusal.{Read, refused}
 use Rattle.files.specs.ReadPolicy.{readPolicy}
 use Rattle.files.specs.ReadRequest.{readRequest}
 use Rattle.files.specs.Memory.{over}
+use Rattle.text.specs.Line.{IsText}
+use Rattle.text.specs.ReadText.{readText}
 use Rattle.sinkheron.specs.Answer.{Answer, refusal, success, Promise}
 
 -- a file's refusals; else what follows for that which it is the file of
@@ -22,6 +24,9 @@ pub data Reads {F A M : Type 0} (read : Read F) (IsFile : F → Type 0) (before 
 
 abbrev pub OfPolicy : {A M : Type 0} → List ℕ → M → (Policy → Promise A M) → Promise A M
 OfPolicy policy = Reads (readPolicy policy) (IsPolicy policy)
+
+abbrev pub OfText : {A M : Type 0} → List ℕ → M → (Policy → Promise A M) → Promise A M
+OfText text = Reads (readText text) (IsText text)
 
 abbrev pub OfRequest : {A M : Type 0} → List ℕ → M → (Request → Promise A M) → Promise A M
 OfRequest request = Reads (readRequest request) (IsRequest request)

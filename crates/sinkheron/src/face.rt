@@ -3,14 +3,17 @@ ghost use mathlib.Core.Path.{_≡_};
 ghost use Prim.Native.Nat.{_+_, _*_, _^_, _<_, _≤_};
 ghost use Rattle.sinkheron.specs.Decide as D;
 ghost use Rattle.sinkheron.specs.ListPairs as L;
+ghost use Rattle.sinkheron.specs.Output as O;
 ghost use Rattle.sinkheron.specs.NormalForm as N;
+ghost use Rattle.sinkheron.specs.ReadText as R;
+ghost use Rattle.sinkheron.specs.WriteText as W;
 ghost use Rattle.sinkheron.specs.Certify as C;
 ghost use Rattle.sinkheron.specs.Search as S;
-ghost use Rattle.sinkheron.specs.Answer.{Says};
+ghost use Rattle.sinkheron.specs.Answer.{word, Says};
 use crate::Certified;
 use crate::Decision;
 use crate::Listing;
-use crate::Normalised;
+use crate::Output;
 use crate::Searched;
 
 // A refusal's number and place.
@@ -19,6 +22,17 @@ fn refusal(number: u8, place: usize) -> u64
     ensures { λ r. ⌜ r ≡ number + place * 2 ^ 8 ⌝ }
 {
     number as u64 + place as u64 * 256
+}
+
+// What was written, by its length.
+fn output(written: Output) -> u64
+    requires { ⌜ O.Small (O.answerOf written) ⌝ }
+    ensures { λ r. ⌜ r ≡ word O.bits (O.answerOf written) ⌝ }
+{
+    match written {
+        Output::Refused { number, place } => refusal(number, place),
+        Output::Written { bytes } => bytes as u64 * 4294967296,
+    }
 }
 
 // An exposure's pairs, bytes, m and i, below the verdict's bit.
@@ -55,12 +69,23 @@ pub extern "C" fn sinkheron_list_pairs(policy: &[u8], pairs: &mut [u32]) -> u64
 
 #[no_mangle]
 pub extern "C" fn sinkheron_normal_form(policy: &[u8], request: &[u8], space: &mut [u8]) -> u64
-    ensures { λ r. ⌜ Says N.answerOf N.bits (N.Normalises (now (policy .entry)) (now (request .entry)) (now (space .entry))) r (now (space .exit)) ⌝ }
+    ensures { λ r. ⌜ Says O.answerOf O.bits (N.Normalises (now (policy .entry)) (now (request .entry)) (now (space .entry))) r (now (space .exit)) ⌝ }
 {
-    match crate::normal_form(policy, request, space) {
-        Normalised::Refused { number, place } => refusal(number, place),
-        Normalised::Written { bytes } => bytes as u64 * 4294967296,
-    }
+    output(crate::normal_form(policy, request, space))
+}
+
+#[no_mangle]
+pub extern "C" fn sinkheron_read_text(text: &[u8], space: &mut [u8]) -> u64
+    ensures { λ r. ⌜ Says O.answerOf O.bits (R.ReadsText (now (text .entry)) (now (space .entry))) r (now (space .exit)) ⌝ }
+{
+    output(crate::read_text(text, space))
+}
+
+#[no_mangle]
+pub extern "C" fn sinkheron_write_text(policy: &[u8], space: &mut [u8]) -> u64
+    ensures { λ r. ⌜ Says O.answerOf O.bits (W.WritesText (now (policy .entry)) (now (space .entry))) r (now (space .exit)) ⌝ }
+{
+    output(crate::write_text(policy, space))
 }
 
 #[no_mangle]

@@ -3,10 +3,13 @@
 ghost use mathlib.Core.Path.{_≡_};
 ghost use Rattle.files.specs.ReadPolicy.{readPolicy};
 ghost use Rattle.files.specs.ReadRequest.{readRequest};
-ghost use Rattle.sinkheron.specs.Files.{filesRead};
+ghost use Rattle.sinkheron.specs.Files.{filesRead, Made, HandsOver};
 ghost use Rattle.sinkheron.specs.Decide as D;
 ghost use Rattle.sinkheron.specs.ListPairs as L;
+ghost use Rattle.sinkheron.specs.Output as O;
 ghost use Rattle.sinkheron.specs.NormalForm as N;
+ghost use Rattle.sinkheron.specs.ReadText as R;
+ghost use Rattle.sinkheron.specs.WriteText as W;
 ghost use Rattle.sinkheron.specs.Certify as C;
 ghost use Rattle.sinkheron.specs.Search as S;
 use evaluate::single::Evaluation;
@@ -14,6 +17,7 @@ use files::policy::PolicyRead;
 use files::request::RequestRead;
 use ptacl::DecisionSet;
 use search::Verdict;
+use text::convert::Parsed;
 
 pub mod face;
 
@@ -27,7 +31,8 @@ pub enum Listing {
     Listed { pairs: usize },
 }
 
-pub enum Normalised {
+// A file or a line that was written, by its length.
+pub enum Output {
     Refused { number: u8, place: usize },
     Written { bytes: usize },
 }
@@ -117,23 +122,61 @@ pub fn list_pairs(policy: &[u8], pairs: &mut [u32]) -> Listing
 }
 
 // The normal form of a request, as a request file at the front of `space`.
-pub fn normal_form(policy: &[u8], request: &[u8], space: &mut [u8]) -> Normalised
-    ensures { λ r. ⌜ N.Normalises (now (policy .entry)) (now (request .entry)) (now (space .entry)) (N.answerOf r) (now (space .exit)) ⌝ }
+pub fn normal_form(policy: &[u8], request: &[u8], space: &mut [u8]) -> Output
+    ensures { λ r. ⌜ N.Normalises (now (policy .entry)) (now (request .entry)) (now (space .entry)) (O.answerOf r) (now (space .exit)) ⌝ }
 {
     if let FilesRead::Refused { number, place } = read_files(policy, request) {
-        return Normalised::Refused { number, place };
+        return Output::Refused { number, place };
     }
     let body = files::policy::body(policy);
     let mut list = [0u32; 254];
     let count = pairs::normal_form_of(body, request, &mut list);
     if space.len() < 3 + 4 * count {
-        return Normalised::Refused {
+        return Output::Refused {
             number: 13,
             place: 0,
         };
     }
     let bytes = files::write::write_request(&list[..count], space);
-    Normalised::Written { bytes }
+    Output::Written { bytes }
+}
+
+// What was made of a policy, at the front of `space`, if it fits whole.
+fn hand_over(converted: Parsed, made: &[u8], space: &mut [u8]) -> Output
+    requires { ⌜ Made converted (now made) ⌝ }
+    ensures { λ r. ⌜ HandsOver (now (made .entry)) (now (space .entry)) converted r (now (space .exit)) ⌝ }
+{
+    match converted {
+        Parsed::Refused { number, place } => Output::Refused { number, place },
+        Parsed::Accepted { bytes } => {
+            if space.len() < bytes {
+                return Output::Refused {
+                    number: 13,
+                    place: 0,
+                };
+            }
+            files::write::copy(&made[..bytes], space, 0);
+            Output::Written { bytes }
+        }
+    }
+}
+
+// The policy file of the line that `text` is.
+pub fn read_text(text: &[u8], space: &mut [u8]) -> Output
+    ensures { λ r. ⌜ R.ReadsText (now (text .entry)) (now (space .entry)) (O.answerOf r) (now (space .exit)) ⌝ }
+{
+    let mut file = [0u8; text::convert::LONGEST];
+    let converted = text::line::read_line(text, &mut file);
+    hand_over(converted, &file, space)
+}
+
+// The line of the policy.
+pub fn write_text(policy: &[u8], space: &mut [u8]) -> Output
+    ensures { λ r. ⌜ W.WritesText (now (policy .entry)) (now (space .entry)) (O.answerOf r) (now (space .exit)) ⌝ }
+{
+    let mut line = [0u8; text::convert::LONGEST];
+    let converted = text::line::write_line(policy, &mut line);
+    hand_over(converted, &line, space)
 }
 
 // The smallest number of a structural rule that applies to the policy, or 0.
