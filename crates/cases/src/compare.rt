@@ -19,6 +19,10 @@ pub const CERTIFY: usize = 4;
 
 pub const SEARCH: usize = 5;
 
+pub const READ_TEXT: usize = 6;
+
+pub const WRITE_TEXT: usize = 7;
+
 // How much memory is lent to an operation, and the byte of which it is full.
 pub struct Rooms {
     pub list: usize,
@@ -30,6 +34,7 @@ pub struct Rooms {
 pub struct Case {
     pub policy: File,
     pub request: File,
+    pub text: File,
     pub rooms: Rooms,
 }
 

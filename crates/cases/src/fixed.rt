@@ -1,5 +1,5 @@
-// Fixed cases, from lines of text: a policy, a request and how much memory is lent, and then operations with the answers
-// that document 01 gives.
+// Fixed cases, from lines of text: a policy, a request, a text and how much memory is lent, and then operations with the
+// answers that the documents give.
 use crate::answer;
 use crate::answer::Answer;
 use crate::arrays::Bytes;
@@ -12,6 +12,7 @@ use crate::compare::Case;
 use crate::compare::Rooms;
 use crate::file;
 use crate::file::File;
+use crate::forms;
 use crate::tally;
 use crate::tally::Tally;
 use crate::text;
@@ -23,6 +24,8 @@ fn operation_of(letter: u8) -> usize {
         b'n' => compare::NORMAL_FORM,
         b'c' => compare::CERTIFY,
         b's' => compare::SEARCH,
+        b'f' => compare::READ_TEXT,
+        b'w' => compare::WRITE_TEXT,
         _ => 0,
     }
 }
@@ -50,7 +53,7 @@ fn answer_of(operation: usize, line: &[u8]) -> Answer {
     }
     match operation {
         compare::DECIDE => answer::decided(first),
-        compare::NORMAL_FORM => answer::written(first),
+        compare::NORMAL_FORM | compare::READ_TEXT | compare::WRITE_TEXT => answer::written(first),
         compare::CERTIFY => answer::certified(first),
         _ => answer::listed(first),
     }
@@ -66,6 +69,12 @@ fn expect(tally: &mut Tally, operation: usize, case: Case, line: &[u8]) {
         tally::FIXED,
         if is_right { first } else { operation },
     );
+}
+
+// Both forms, where the operation is between them.
+fn convert(tally: &mut Tally, operation: usize, case: Case, line: &[u8]) {
+    let is_right = forms::agree(operation, case, answer_of(operation, line));
+    tally::record(tally, tally::FIXED, if is_right { 0 } else { operation });
 }
 
 fn starts_with(memory: &Bytes, front: &Bytes, n: usize) -> bool {
@@ -94,6 +103,14 @@ fn memory_of(line: &[u8]) -> usize {
     at(&numbers, 0)
 }
 
+fn try_on(tally: &mut Tally, operation: usize, case: Case, line: &[u8]) {
+    match operation {
+        0 => {}
+        compare::READ_TEXT | compare::WRITE_TEXT => convert(tally, operation, case, line),
+        _ => expect(tally, operation, case, line),
+    }
+}
+
 // A line sets a part of the case or is tried on it, by its first letter.
 fn run(tally: &mut Tally, case: Case, line: &[u8]) -> Case {
     let mut next = case;
@@ -101,13 +118,10 @@ fn run(tally: &mut Tally, case: Case, line: &[u8]) -> Case {
         b'p' => next.policy = text::bytes_of(line),
         b'r' => next.request = text::bytes_of(line),
         b'm' => next.rooms = rooms_of(memory_of(line)),
+        b't' => next.text = text::typed(line),
+        b'h' => next.text = text::bytes_of(line),
         b'b' => begins(tally, case, text::bytes_of(line)),
-        letter => {
-            let operation = operation_of(letter);
-            if operation != 0 {
-                expect(tally, operation, case, line);
-            }
-        }
+        letter => try_on(tally, operation_of(letter), case, line),
     }
     next
 }
@@ -125,6 +139,7 @@ pub fn all(tally: &mut Tally, text: &[u8]) {
     let mut case = Case {
         policy: file::zeros(0),
         request: file::zeros(0),
+        text: file::zeros(0),
         rooms: rooms_of(0),
     };
     let mut start = 0;

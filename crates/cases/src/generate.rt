@@ -188,6 +188,7 @@ pub fn case(seed: &mut usize) -> Case {
     Case {
         policy: damaged(seed, whole),
         request: damaged(seed, asked),
+        text: file::zeros(0),
         rooms: rooms(seed),
     }
 }

@@ -1,4 +1,4 @@
-// The five operations by the library, the first `room` numbers or bytes of the memory lent.
+// The operations by the library, the first `room` numbers or bytes of the memory lent.
 use crate::answer;
 use crate::answer::Answer;
 use crate::arrays::wide;
@@ -29,10 +29,28 @@ pub fn normal_form(policy: &[u8], request: &[u8], space: &mut [u8], room: usize)
     if space.len() < room {
         return answer::refused(99, 0);
     }
-    match sinkheron::normal_form(policy, request, &mut space[..room]) {
+    output_of(sinkheron::normal_form(policy, request, &mut space[..room]))
+}
+
+fn output_of(written: Output) -> Answer {
+    match written {
         Output::Refused { number, place } => answer::refused(wide(number), place),
         Output::Written { bytes } => answer::written(bytes),
     }
+}
+
+pub fn read_text(text: &[u8], space: &mut [u8], room: usize) -> Answer {
+    if space.len() < room {
+        return answer::refused(99, 0);
+    }
+    output_of(sinkheron::read_text(text, &mut space[..room]))
+}
+
+pub fn write_text(policy: &[u8], space: &mut [u8], room: usize) -> Answer {
+    if space.len() < room {
+        return answer::refused(99, 0);
+    }
+    output_of(sinkheron::write_text(policy, &mut space[..room]))
 }
 
 pub fn certify(policy: &[u8]) -> Answer {

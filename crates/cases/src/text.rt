@@ -148,6 +148,16 @@ pub fn bytes_of(line: &[u8]) -> File {
     File { bytes, len }
 }
 
+// What is typed on a line behind its first word, with the line feed.
+pub fn typed(line: &[u8]) -> File {
+    let mut bytes = [0u8; 2048];
+    for i in 0..line.len() {
+        set_byte(&mut bytes, i, wide(char_at(line, plus(i, 5))));
+    }
+    let len = if line.len() < 5 { 0 } else { line.len() - 5 };
+    File { bytes, len }
+}
+
 fn scanned(numbers: &mut List, s: Scan, c: u8) -> Scan {
     let x = digit(c);
     let mut next = s;
