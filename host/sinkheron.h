@@ -1,15 +1,16 @@
 /* Sinkheron: whether a batch may be released, and whether leaving a fact out of a request can open a release.
  *
- * Every call ends with an answer for every byte string and lent space, and keeps nothing. A call reads policy[0 .. policy_len) and
- * request[0 .. request_len) and writes nothing but space[0 .. space_len) or pairs[0 .. pairs_len). A refusal alters no lent memory.
+ * Every call ends with an answer for every byte string and lent space, and keeps nothing. A call reads policy[0 .. policy_len),
+ * request[0 .. request_len) and text[0 .. text_len) and writes nothing but space[0 .. space_len) or pairs[0 .. pairs_len). A refusal
+ * alters no lent memory.
  *
  * What the caller provides: each pointer names a readable block (space and pairs: writable too) of at least the stated length, of
  * the stated type's alignment; a written block overlaps no other. Where a length is 0 the pointer is not followed and may be NULL.
  * Calls share no state: several threads may call at once on blocks of their own.
  *
  * The answer is one word. Bits 0 to 7 have the number; 0 is success. Where the number is not 0, bits 8 to 39 have the place, a byte
- * offset in the file concerned, and all other bits are 0. Where it is 0 the operation's values stand as described at each call, and
- * all other bits are 0.
+ * offset in the file or text concerned, and all other bits are 0. Where it is 0 the operation's values stand as described at each
+ * call, and all other bits are 0.
  *
  *  number  when                                              what an operator does
  *  1, 2, 3 policy file: shorter than 3 bytes; version byte   the policy file is cut or not one: fetch it again
@@ -21,8 +22,15 @@
  *          byte; stated length; not a multiple of 4
  *  25      more than 256 pairs                               send only the attributes that the policy uses
  *  26      pair not above the one before                     the station must send pairs sorted and once each
+ *  51      text: a word not due here, or another byte where  mend the line at the place
+ *          a space is due
+ *  52      text: no number up to 65535 where one is due      mend the line at the place
+ *  53      text ends where a word, space or line feed is     finish the line
+ *          due
+ *  54      text: no line feed behind the last word, or       end the line, and the text behind it
+ *          bytes behind the line feed
  *  12      search: more than 16 pairs                        rely on the certificate, or split the policy
- *  13      lent space too small                              lend more (search: 130 bytes)
+ *  13      lent space too small                              lend more: each call says how much suffices
  *  14      decision set came out empty                       report it: hold the batch
  */
 #ifndef SINKHERON_H
@@ -55,6 +63,16 @@ uint64_t sinkheron_list_pairs(const uint8_t *policy, size_t policy_len, uint32_t
 uint64_t sinkheron_normal_form(const uint8_t *policy, size_t policy_len, const uint8_t *request, size_t request_len, uint8_t *space,
                                size_t space_len);
 
+/* The policy file of the policy that the text is the line of, at the front of the space; bytes past it are unaltered. A line has the
+ * policy's words in prefix order, single spaces between them and a line feed at the end: tatom with name and value in decimal without
+ * leading zeros, tnot, topt, tand, pzero (deny), pone (allow), ptar (targeted), pnot, pdbd (deny by default), pand. Bits 32 to 47 have
+ * the file's length. Numbers 6 and 7 at a word, 51 to 54, 13 (shorter than the file; 766 bytes always suffice). */
+uint64_t sinkheron_read_text(const uint8_t *text, size_t text_len, uint8_t *space, size_t space_len);
+
+/* The line of the file's policy at the front of the space, without a zero byte behind it; bytes past it are unaltered. Bits 32 to 47
+ * have the line's length. Numbers 1 to 8, 13 (shorter than the line; 2927 bytes always suffice). */
+uint64_t sinkheron_write_text(const uint8_t *policy, size_t policy_len, uint8_t *space, size_t space_len);
+
 /* The smallest number, 1 to 6, of a structural rule that shows the policy resistant, or 0: bits 12 to 15. Numbers 1 to 8. */
 uint64_t sinkheron_certify(const uint8_t *policy, size_t policy_len);
 
@@ -68,6 +86,7 @@ static inline unsigned sinkheron_pair_count(uint64_t word) { return (unsigned)(w
 static inline unsigned sinkheron_bytes(uint64_t word) { return (unsigned)(word >> 24 & 0xff); }
 static inline unsigned sinkheron_subset(uint64_t word) { return (unsigned)(word >> 32 & 0xffff); }
 static inline unsigned sinkheron_hides(uint64_t word) { return (unsigned)(word >> 48 & 0xffff); }
+/* Of the file or line written. */
 static inline unsigned sinkheron_file_length(uint64_t word) { return (unsigned)(word >> 32 & 0xffff); }
 
 /* Whether the word is decide's answer that releases: number 0 and allow alone. */
