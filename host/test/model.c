@@ -46,58 +46,83 @@ static uint32_t big32(const uint8_t *at)
     return (uint32_t)at[0] << 24 | (uint32_t)at[1] << 16 | (uint32_t)at[2] << 8 | at[3];
 }
 
-/* Parses without recursion: a stack of slots that wait for a term, the one due next on top. */
+/* ---- the walk that bytes and words share, without recursion: slots that wait for a term, the one due next on top */
+
+struct slot {
+    int parent, second, target, depth;
+};
+
+struct walk {
+    struct policy *policy;
+    int waiting;
+    struct slot due[520];
+};
+
+static void begin(struct walk *w, struct policy *p)
+{
+    static const struct slot root = {-1, 0, 0, 1};
+    p->count = 0;
+    w->policy = p;
+    w->due[0] = root;
+    w->waiting = 1;
+}
+
+static int parts_of(unsigned tag)
+{
+    if (tag == 0x10 || tag == 0x20 || tag == 0x21)
+        return 0;
+    return tag == 0x13 || tag == 0x22 || tag == 0x25 ? 2 : 1;
+}
+
+static int is_due(const struct slot *slot, unsigned tag)
+{
+    return slot->target ? tag >= 0x10 && tag <= 0x13 : tag >= 0x20 && tag <= 0x25;
+}
+
+/* Gives the slot due next a node of that tag, and its parts slots of their own; else the refusal's number. */
+static unsigned settle(struct walk *w, unsigned tag)
+{
+    struct slot slot = w->due[w->waiting - 1];
+    struct node *node = w->policy->node;
+    if (!is_due(&slot, tag))
+        return 5;
+    if (slot.depth > 32)
+        return 6;
+    if (w->policy->count >= 255)
+        return 7;
+    int me = w->policy->count++;
+    node[me].tag = (uint8_t)tag;
+    node[me].first = node[me].second = -1;
+    if (slot.parent >= 0)
+        *(slot.second ? &node[slot.parent].second : &node[slot.parent].first) = me;
+    w->waiting--;
+    for (int part = parts_of(tag); part > 0; part--) {
+        struct slot below = {me, part == 2, slot.target || (tag == 0x22 && part == 1), slot.depth + 1};
+        w->due[w->waiting++] = below;
+    }
+    return 0;
+}
+
 static struct answer parse(const uint8_t *file, size_t len, struct policy *p)
 {
-    struct { int parent, second, target, depth; } due[520];
-    int waiting = 1;
+    struct walk w;
     size_t at = 3;
     struct answer a = frame(1, file, len);
     if (a.number != 0)
         return a;
-    p->count = 0;
-    due[0].parent = -1;
-    due[0].second = 0;
-    due[0].target = 0;
-    due[0].depth = 1;
-    while (waiting > 0) {
-        waiting--;
-        int parent = due[waiting].parent, second = due[waiting].second;
-        int target = due[waiting].target, depth = due[waiting].depth;
+    begin(&w, p);
+    while (w.waiting > 0) {
         if (at >= len)
             return refuse(4, len);
-        uint8_t tag = file[at];
-        int known = target ? (tag >= 0x10 && tag <= 0x13) : (tag >= 0x20 && tag <= 0x25);
-        if (!known)
-            return refuse(5, at);
-        if (depth > 32)
-            return refuse(6, at);
-        if (p->count >= 255)
-            return refuse(7, at);
-        int me = p->count++;
-        p->node[me].tag = tag;
-        p->node[me].first = p->node[me].second = -1;
-        if (parent >= 0) {
-            if (second)
-                p->node[parent].second = me;
-            else
-                p->node[parent].first = me;
-        }
-        if (tag == 0x10) {
-            if (len - at < 5)
-                return refuse(4, len);
-            p->node[me].pair = big32(file + at + 1);
-            at += 5;
-            continue;
-        }
-        at++;
-        int parts = tag == 0x20 || tag == 0x21 ? 0 : tag == 0x13 || tag == 0x22 || tag == 0x25 ? 2 : 1;
-        for (int part = parts; part > 0; part--) {
-            due[waiting].parent = me;
-            due[waiting].second = part == 2;
-            due[waiting].target = target || (tag == 0x22 && part == 1);
-            due[waiting].depth = depth + 1;
-            waiting++;
+        unsigned number = settle(&w, file[at]);
+        if (number != 0)
+            return refuse(number, at);
+        int atom = file[at++] == 0x10;
+        if (atom && len - at < 4)
+            return refuse(4, len);
+        if (atom) {
+            p->node[p->count - 1].pair = big32(file + at);
+            at += 4;
         }
     }
     return at < len ? refuse(8, at) : refuse(0, 0);
