@@ -1,10 +1,12 @@
 #include "model.h"
 
+#include <stdio.h>
+#include <stdlib.h>
 #include <string.h>
 
 enum { ONE, ZERO, UNDEFINED };
 
-/* ---- files: a policy as an array of nodes, each with its parts' numbers */
+/* ---- a policy as an array of nodes, each with its parts' numbers */
 
 struct node {
     uint8_t tag;
@@ -28,22 +30,6 @@ static struct answer refuse(unsigned number, size_t place)
     a.number = number;
     a.place = place;
     return a;
-}
-
-static struct answer frame(unsigned first, const uint8_t *file, size_t len)
-{
-    if (len < 3)
-        return refuse(first, len);
-    if (file[0] != 1)
-        return refuse(first + 1, 0);
-    if ((size_t)file[1] * 256 + file[2] != len - 3)
-        return refuse(first + 2, 1);
-    return refuse(0, 0);
-}
-
-static uint32_t big32(const uint8_t *at)
-{
-    return (uint32_t)at[0] << 24 | (uint32_t)at[1] << 16 | (uint32_t)at[2] << 8 | at[3];
 }
 
 /* ---- the walk that bytes and words share, without recursion: slots that wait for a term, the one due next on top */
@@ -92,6 +78,7 @@ static unsigned settle(struct walk *w, unsigned tag)
         return 7;
     int me = w->policy->count++;
     node[me].tag = (uint8_t)tag;
+    node[me].pair = 0;
     node[me].first = node[me].second = -1;
     if (slot.parent >= 0)
         *(slot.second ? &node[slot.parent].second : &node[slot.parent].first) = me;
@@ -101,6 +88,24 @@ static unsigned settle(struct walk *w, unsigned tag)
         w->due[w->waiting++] = below;
     }
     return 0;
+}
+
+/* ---- files */
+
+static struct answer frame(unsigned first, const uint8_t *file, size_t len)
+{
+    if (len < 3)
+        return refuse(first, len);
+    if (file[0] != 1)
+        return refuse(first + 1, 0);
+    if ((size_t)file[1] * 256 + file[2] != len - 3)
+        return refuse(first + 2, 1);
+    return refuse(0, 0);
+}
+
+static uint32_t big32(const uint8_t *at)
+{
+    return (uint32_t)at[0] << 24 | (uint32_t)at[1] << 16 | (uint32_t)at[2] << 8 | at[3];
 }
 
 static struct answer parse(const uint8_t *file, size_t len, struct policy *p)
@@ -144,6 +149,140 @@ static struct answer read_request(const uint8_t *file, size_t len, struct reques
         if (q->pair[i] <= q->pair[i - 1])
             return refuse(26, (size_t)(3 + 4 * i));
     return refuse(0, 0);
+}
+
+/* ---- text */
+
+static const struct {
+    uint8_t tag;
+    const char *word;
+} words[] = {
+    {0x10, "tatom"}, {0x11, "tnot"}, {0x12, "topt"}, {0x13, "tand"}, {0x20, "pzero"},
+    {0x21, "pone"},  {0x22, "ptar"}, {0x23, "pnot"}, {0x24, "pdbd"}, {0x25, "pand"},
+};
+
+static const char *word_of(unsigned tag)
+{
+    for (size_t k = 0; k < sizeof words / sizeof *words; k++)
+        if (words[k].tag == tag)
+            return words[k].word;
+    return "";
+}
+
+/* 0, which is no node's tag, for bytes that are none of the words. */
+static unsigned tag_of_run(const uint8_t *bytes, size_t length)
+{
+    for (size_t k = 0; k < sizeof words / sizeof *words; k++)
+        if (strlen(words[k].word) == length && memcmp(words[k].word, bytes, length) == 0)
+            return words[k].tag;
+    return 0;
+}
+
+/* The number that the run is, or -1. It is one if the number that it begins with, printed, is the run again. */
+static long number_of_run(const uint8_t *bytes, size_t length)
+{
+    char digits[6] = "", printed[24];
+    if (length > 5)
+        return -1;
+    memcpy(digits, bytes, length);
+    long number = strtol(digits, NULL, 10);
+    size_t same = (size_t)sprintf(printed, "%ld", number);
+    return same == length && memcmp(printed, digits, length) == 0 && number >= 0 && number <= 65535 ? number : -1;
+}
+
+/* Where in a text a reader is. */
+struct reader {
+    const uint8_t *text;
+    size_t len, at;
+};
+
+static size_t run_at(const struct reader *r)
+{
+    size_t end = r->at;
+    while (end < r->len && r->text[end] != ' ' && r->text[end] != '\n')
+        end++;
+    return end - r->at;
+}
+
+/* The byte behind a word or number: a space where more follows, else the line feed. */
+static struct answer pass_gap(struct reader *r, int more)
+{
+    if (r->at == r->len)
+        return refuse(53, r->len);
+    if (r->text[r->at] != (more ? ' ' : '\n'))
+        return refuse(more ? 51 : 54, r->at);
+    r->at++;
+    return refuse(0, 0);
+}
+
+static struct answer pass_number(struct reader *r, int more, uint32_t *pair)
+{
+    size_t length = run_at(r);
+    long number = number_of_run(r->text + r->at, length);
+    if (number < 0)
+        return refuse(52, r->at);
+    *pair = *pair << 16 | (uint32_t)number;
+    r->at += length;
+    return pass_gap(r, more);
+}
+
+/* A word, the numbers of an atom, and the byte behind each. */
+static struct answer pass_node(struct reader *r, struct walk *w)
+{
+    if (r->at == r->len)
+        return refuse(53, r->len);
+    size_t length = run_at(r);
+    unsigned tag = tag_of_run(r->text + r->at, length), number = settle(w, tag);
+    if (number != 0)
+        return refuse(number == 5 ? 51 : number, r->at);
+    r->at += length;
+    struct answer a = pass_gap(r, w->waiting > 0 || tag == 0x10);
+    struct node *node = &w->policy->node[w->policy->count - 1];
+    if (a.number == 0 && tag == 0x10)
+        a = pass_number(r, 1, &node->pair);
+    if (a.number == 0 && tag == 0x10)
+        a = pass_number(r, w->waiting > 0, &node->pair);
+    return a;
+}
+
+static struct answer parse_text(const uint8_t *text, size_t len, struct policy *p)
+{
+    struct walk w;
+    struct reader r = {text, len, 0};
+    struct answer a = refuse(0, 0);
+    begin(&w, p);
+    while (a.number == 0 && w.waiting > 0)
+        a = pass_node(&r, &w);
+    return a.number == 0 && r.at < len ? refuse(54, r.at) : a;
+}
+
+/* The nodes were numbered as they were read, so they stand in prefix order. */
+static size_t write_policy(const struct policy *p, uint8_t *into)
+{
+    size_t n = 3;
+    for (int i = 0; i < p->count; i++) {
+        into[n++] = p->node[i].tag;
+        if (p->node[i].tag == 0x10)
+            for (int shift = 24; shift >= 0; shift -= 8)
+                into[n++] = (uint8_t)(p->node[i].pair >> shift);
+    }
+    into[0] = 1;
+    into[1] = (uint8_t)((n - 3) >> 8);
+    into[2] = (uint8_t)(n - 3);
+    return n;
+}
+
+static size_t write_line(const struct policy *p, char *into)
+{
+    size_t n = 0;
+    for (int i = 0; i < p->count; i++) {
+        const struct node *t = &p->node[i];
+        n += (size_t)sprintf(into + n, "%s%s", i == 0 ? "" : " ", word_of(t->tag));
+        if (t->tag == 0x10)
+            n += (size_t)sprintf(into + n, " %u %u", (unsigned)(t->pair >> 16), (unsigned)(t->pair & 0xffff));
+    }
+    into[n] = '\n';
+    return n + 1;
 }
 
 /* ---- meaning, by goal: what a target is, and whether a policy may come to a value */
@@ -296,7 +435,7 @@ static unsigned rule(const struct policy *p, int n)
     return 0;
 }
 
-/* ---- the five operations */
+/* ---- the operations */
 
 struct answer model_decide(const uint8_t *policy, size_t policy_len, const uint8_t *request, size_t request_len)
 {
@@ -414,4 +553,31 @@ struct answer model_search(const uint8_t *policy, size_t policy_len, uint8_t *sp
         a.bytes += write_file(more.pair, more.count, space + a.bytes);
     }
     return a;
+}
+
+static struct answer hand_over(const void *output, size_t length, uint8_t *space, size_t space_len)
+{
+    if (space_len < length)
+        return refuse(13, 0);
+    struct answer a = refuse(0, 0);
+    memcpy(space, output, length);
+    a.bytes = length;
+    return a;
+}
+
+/* 255 nodes are at most 255 bytes of tags and 255 * 4 of numbers, and as words at most 18 bytes each. */
+struct answer model_read_text(const uint8_t *text, size_t text_len, uint8_t *space, size_t space_len)
+{
+    struct policy p;
+    uint8_t file[3 + 255 * 5];
+    struct answer a = parse_text(text, text_len, &p);
+    return a.number != 0 ? a : hand_over(file, write_policy(&p, file), space, space_len);
+}
+
+struct answer model_write_text(const uint8_t *policy, size_t policy_len, uint8_t *space, size_t space_len)
+{
+    struct policy p;
+    char line[255 * 18 + 1];
+    struct answer a = parse(policy, policy_len, &p);
+    return a.number != 0 ? a : hand_over(line, write_line(&p, line), space, space_len);
 }
