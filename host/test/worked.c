@@ -1,4 +1,4 @@
-/* Document 01's worked policies and edges through the C face, all five operations. */
+/* Document 01's worked policies and edges and document 02's written form through the C face, all operations. */
 #include "../sinkheron.h"
 
 #include <stdio.h>
@@ -215,6 +215,345 @@ static void most_nodes(void)
     expect("a 256th node", sinkheron_certify(p.bytes, 259), refused(7, 258));
 }
 
+/* ---- the written form */
+
+enum { KEPT = 0xee, LONGEST_FILE = 766, LONGEST_LINE = 2927 };
+
+struct text {
+    size_t length;
+    char bytes[80000];
+};
+
+static void append(struct text *t, const char *end)
+{
+    size_t more = strlen(end);
+    memcpy(t->bytes + t->length, end, more);
+    t->length += more;
+}
+
+static void append_times(struct text *t, const char *end, unsigned times)
+{
+    while (times-- > 0)
+        append(t, end);
+}
+
+static void text(struct text *t, const char *bytes)
+{
+    t->length = 0;
+    append(t, bytes);
+}
+
+static uint64_t length_word(uint64_t length) { return length << 32; }
+
+static int is_kept(const uint8_t *from, const uint8_t *end)
+{
+    while (from < end && *from == KEPT)
+        from++;
+    return from == end;
+}
+
+/* The text is refused, and no byte of the space is altered. */
+static void expect_refused(const char *what, const struct text *t, unsigned number, uint64_t place)
+{
+    uint8_t space[LONGEST_FILE];
+    memset(space, KEPT, sizeof space);
+    expect(what, sinkheron_read_text((const uint8_t *)t->bytes, t->length, space, sizeof space), refused(number, place));
+    expect(what, (uint64_t)is_kept(space, space + sizeof space), 1);
+}
+
+/* Text to file and back in spaces that just suffice and in larger ones; one byte less is 13. */
+static void expect_both_forms(const char *what, const struct text *t, const struct file *f)
+{
+    uint8_t file_space[LONGEST_FILE + 1], line_space[LONGEST_LINE + 1];
+    const uint8_t *line = (const uint8_t *)t->bytes;
+    memset(file_space, KEPT, sizeof file_space);
+    memset(line_space, KEPT, sizeof line_space);
+    expect(what, sinkheron_read_text(line, t->length, file_space, f->length - 1), refused(13, 0));
+    expect(what, sinkheron_write_text(f->bytes, f->length, line_space, t->length - 1), refused(13, 0));
+    expect(what, (uint64_t)is_kept(file_space, file_space + sizeof file_space), 1);
+    expect(what, (uint64_t)is_kept(line_space, line_space + sizeof line_space), 1);
+    expect(what, sinkheron_read_text(line, t->length, file_space, f->length), length_word(f->length));
+    expect(what, sinkheron_write_text(f->bytes, f->length, line_space, t->length), length_word(t->length));
+    expect(what, sinkheron_read_text(line, t->length, file_space, sizeof file_space), length_word(f->length));
+    expect(what, sinkheron_write_text(f->bytes, f->length, line_space, sizeof line_space), length_word(t->length));
+    expect_bytes(what, file_space, f->bytes, f->length);
+    expect_bytes(what, line_space, line, t->length);
+    expect(what, (uint64_t)is_kept(file_space + f->length, file_space + sizeof file_space), 1);
+    expect(what, (uint64_t)is_kept(line_space + t->length, line_space + sizeof line_space), 1);
+}
+
+static void lines(void)
+{
+    static struct file f;
+    static struct text t;
+    const struct { const char *line, *body; } row[] = {
+        {"pnot pdbd pnot ptar tatom 1 1 pzero\n", A},
+        {"pdbd ptar tatom 1 2 pone\n", B},
+        {"ptar tnot tatom 1 1 pone\n", C},
+        {"ptar tnot topt tatom 1 1 pone\n", D},
+        {"pnot pnot pdbd ptar tatom 1 2 pone\n", E},
+        {"pone\n", F},
+        {"pzero\n", "20"},
+        {"pand pzero ptar tand tatom 0 65535 topt tatom 256 10 pone\n", "25 20 22 13 10 0000 ffff 12 10 0100 000a 21"},
+    };
+    for (size_t k = 0; k < sizeof row / sizeof *row; k++) {
+        text(&t, row[k].line);
+        file(&f, row[k].body);
+        expect_both_forms(row[k].line, &t, &f);
+    }
+}
+
+/* Each way a text can be refused, with the place that document 02 gives it. */
+struct fault {
+    const char *text;
+    uint64_t place;
+};
+
+static void expect_each_refused(unsigned number, const struct fault *row, size_t count)
+{
+    static struct text t;
+    for (size_t k = 0; k < count; k++) {
+        text(&t, row[k].text);
+        expect_refused(row[k].text, &t, number, row[k].place);
+    }
+}
+
+static void texts_with_another_word(void)
+{
+    static const struct fault word[] = {
+        {"tatom 1 1\n", 0}, {"ptar pzero pzero\n", 5}, {"ptar tnot pone pzero\n", 10}, {"ptar tatom 1 1 tatom 1 1\n", 15}, {"7\n", 0},
+        {"pzer\n", 0}, {"pzeros\n", 0}, {"pnot Pzero\n", 5}, {"pnot p", 5}, {"pnot pon\xe9\n", 5}, {"pzero\r\n", 0}, {"pnot\tpzero\n", 0},
+    };
+    static const struct fault no_word[] = {{"\n", 0}, {" pzero\n", 0}, {"pnot  pzero\n", 5}, {"pnot \n", 5}, {"pand pone \n", 10}};
+    static const struct fault no_space[] = {
+        {"pnot\npzero\n", 4}, {"ptar tatom\n1 1 pone\n", 10}, {"ptar tatom 1\n1 pone\n", 12}, {"ptar tatom 1 1\npone\n", 14},
+    };
+    expect_each_refused(51, word, sizeof word / sizeof *word);
+    expect_each_refused(51, no_word, sizeof no_word / sizeof *no_word);
+    expect_each_refused(51, no_space, sizeof no_space / sizeof *no_space);
+}
+
+static void texts_without_a_number(void)
+{
+    static const struct fault name[] = {
+        {"ptar tatom ", 11}, {"ptar tatom \n", 11}, {"ptar tatom  1 pone\n", 11}, {"ptar tatom pone\n", 11}, {"ptar tatom 01 1 pone\n", 11},
+        {"ptar tatom +1 1 pone\n", 11}, {"ptar tatom -0 1 pone\n", 11}, {"ptar tatom 1x 1 pone\n", 11}, {"ptar tatom 0x1 1 pone\n", 11},
+        {"ptar tatom 1.0 1 pone\n", 11}, {"ptar tatom 1\t1 pone\n", 11}, {"ptar tatom 99999", 11}, {"ptar tatom 65536 1 pone\n", 11},
+        {"ptar tatom 65537 1 pone\n", 11}, {"ptar tatom 4294967297 1 pone\n", 11}, {"ptar tatom 18446744073709551617 1 pone\n", 11},
+    };
+    static const struct fault value[] = {
+        {"ptar tatom 1 ", 13}, {"ptar tatom 1  pone\n", 13}, {"ptar tatom 1 00 pone\n", 13}, {"ptar tatom 1 -1 pone\n", 13},
+        {"ptar tatom 1 65536 pone\n", 13}, {"ptar tatom 1 12345678901234567890 pone\n", 13}, {"ptar tatom 1 1\r\n", 13},
+    };
+    expect_each_refused(52, name, sizeof name / sizeof *name);
+    expect_each_refused(52, value, sizeof value / sizeof *value);
+}
+
+static void texts_that_end_early(void)
+{
+    static const struct fault row[] = {
+        {"", 0}, {"pnot ", 5}, {"ptar tatom 1 1 ", 15}, {"pnot", 4}, {"ptar tatom", 10}, {"ptar tatom 1", 12}, {"ptar tatom 1 1", 14}, {"pzero", 5},
+    };
+    expect_each_refused(53, row, sizeof row / sizeof *row);
+}
+
+static void texts_that_go_on(void)
+{
+    static const struct fault row[] = {
+        {"pzero \n", 5}, {"pzero ", 5}, {"pzero pzero\n", 5}, {"ptar tatom 1 1 pone pone\n", 19},
+        {"pzero\n\n", 6}, {"pzero\npzero\n", 6}, {"pzero\n ", 6},
+    };
+    expect_each_refused(54, row, sizeof row / sizeof *row);
+}
+
+static void texts_with_a_zero_byte(void)
+{
+    static struct text t;
+    memcpy(t.bytes, "pzero\n\0", 7);
+    t.length = 7;
+    expect_refused("a zero byte behind the line", &t, 54, 6);
+    memcpy(t.bytes, "pone\0\n", 6);
+    t.length = 6;
+    expect_refused("a zero byte behind the word", &t, 51, 0);
+}
+
+/* No limit on the length of a text but the refusals'. */
+static void long_texts(void)
+{
+    static struct text t;
+    text(&t, "ptar tatom ");
+    append_times(&t, "1", 1000);
+    append(&t, " 1 pone\n");
+    expect_refused("a number of a thousand digits", &t, 52, 11);
+    text(&t, "ptar tatom 1 ");
+    append_times(&t, "0", 70000);
+    expect_refused("70,000 zeros", &t, 52, 13);
+    text(&t, "pnot ");
+    append_times(&t, "p", 70000);
+    expect_refused("a word of 70,000 letters", &t, 51, 5);
+    text(&t, "pone\n");
+    append_times(&t, "pone\n", 14000);
+    expect_refused("70,000 bytes behind the line", &t, 54, 5);
+}
+
+static void deep_texts(void)
+{
+    static struct file f;
+    static struct text t;
+    text(&t, "");
+    append_times(&t, "pnot ", 31);
+    append(&t, "pzero\n");
+    repeated(&f, 0x23, 31, "20");
+    expect_both_forms("31 nots as text", &t, &f);
+    const struct { const char *what, *end; unsigned number; } row[] = {
+        {"32 nots as text", "pzero\n", 6}, {"6 where the text then ends", "pzero", 6}, {"51 before 6", "pzera\n", 51},
+        {"a target's word, 51 before 6", "tnot\n", 51}, {"no word, 51 before 6", " \n", 51}, {"the end, 53", "", 53},
+    };
+    for (size_t k = 0; k < sizeof row / sizeof *row; k++) {
+        text(&t, "");
+        append_times(&t, "pnot ", 32);
+        append(&t, row[k].end);
+        expect_refused(row[k].what, &t, row[k].number, 32 * 5);
+    }
+    text(&t, "");
+    append_times(&t, "pnot ", 31);
+    append(&t, "ptar tatom 1 1 pzero\n");
+    expect_refused("a target at depth 33", &t, 6, 32 * 5);
+}
+
+/* A tree of ands of so many leaves: twice as many words less one, each of five bytes with the space behind it. */
+static void append_tree(struct text *t, unsigned leaves)
+{
+    if (leaves > 1) {
+        append(t, "pand ");
+        append_tree(t, leaves / 2);
+        append_tree(t, leaves - leaves / 2);
+    } else {
+        append(t, "pone ");
+    }
+}
+
+static void broad_texts(void)
+{
+    static struct file f;
+    static struct text t;
+    f.length = 3;
+    tree(&f, 128);
+    memcpy(f.bytes, "\1\0\377", 3);
+    text(&t, "");
+    append_tree(&t, 128);
+    t.bytes[t.length - 1] = '\n';
+    expect_both_forms("255 nodes as text", &t, &f);
+    const struct { const char *what, *end; unsigned number; } row[] = {
+        {"a 256th node as text", "pone\n", 7}, {"7 where the text then ends", "pone", 7}, {"51 before 7", "pona\n", 51}, {"the end, 53", "", 53},
+    };
+    for (size_t k = 0; k < sizeof row / sizeof *row; k++) {
+        text(&t, "pnot ");
+        append_tree(&t, 128);
+        t.length -= 5;
+        append(&t, row[k].end);
+        expect_refused(row[k].what, &t, row[k].number, 255 * 5);
+    }
+}
+
+/* An and, 223 nodes on its left and 31 nots on its right are 255; the next word is the 256th and at depth 33. */
+static void deep_and_broad_texts(void)
+{
+    static struct text t;
+    const struct { const char *what, *end; unsigned number; } row[] = {
+        {"6 before 7", "pone\n", 6}, {"51 before 6 and 7", "pona\n", 51},
+    };
+    for (size_t k = 0; k < sizeof row / sizeof *row; k++) {
+        text(&t, "pand ");
+        append_tree(&t, 112);
+        append_times(&t, "pnot ", 31);
+        append(&t, row[k].end);
+        expect_refused(row[k].what, &t, row[k].number, 255 * 5);
+    }
+}
+
+static void add_hex_targets(char *body, unsigned atoms)
+{
+    if (atoms > 1) {
+        strcat(body, "13 ");
+        add_hex_targets(body, atoms / 2);
+        add_hex_targets(body, atoms - atoms / 2);
+    } else {
+        strcat(body, "10 ffff ffff ");
+    }
+}
+
+static void append_targets(struct text *t, unsigned atoms)
+{
+    if (atoms > 1) {
+        append(t, "tand ");
+        append_targets(t, atoms / 2);
+        append_targets(t, atoms - atoms / 2);
+    } else {
+        append(t, "tatom 65535 65535 ");
+    }
+}
+
+/* 127 atoms of the longest numbers, 126 ands over them, and pzero, the longer leaf: no policy is longer in either form. */
+static void longest(void)
+{
+    static struct file f;
+    static struct text t;
+    static char body[4000] = "22 ";
+    add_hex_targets(body, 127);
+    strcat(body, "20");
+    file(&f, body);
+    text(&t, "ptar ");
+    append_targets(&t, 127);
+    append(&t, "pzero\n");
+    expect("the longest file", f.length, LONGEST_FILE);
+    expect("the longest line", t.length, LONGEST_LINE);
+    expect_both_forms("the longest policy", &t, &f);
+}
+
+static void expect_unwritten(const char *what, const struct file *f, size_t length, uint64_t wanted)
+{
+    uint8_t space[LONGEST_LINE];
+    memset(space, KEPT, sizeof space);
+    expect(what, sinkheron_write_text(f->bytes, length, space, sizeof space), wanted);
+    expect(what, (uint64_t)is_kept(space, space + sizeof space), 1);
+    expect(what, sinkheron_write_text(f->bytes, length, NULL, 0), wanted);
+}
+
+static void unwritten_files(void)
+{
+    static struct file f;
+    file(&f, A);
+    expect_unwritten("two bytes of A", &f, 2, refused(1, 2));
+    expect_unwritten("A cut", &f, 12, refused(3, 1));
+    f.bytes[0] = 2;
+    expect_unwritten("A of version 2", &f, f.length, refused(2, 0));
+    const struct { const char *body; unsigned number; uint64_t place; } row[] = {
+        {"23", 4, 4}, {"22 10 0001 00", 4, 8}, {"23 10", 5, 4}, {"22 20", 5, 4}, {"21 21", 8, 4},
+    };
+    for (size_t k = 0; k < sizeof row / sizeof *row; k++) {
+        file(&f, row[k].body);
+        expect_unwritten(row[k].body, &f, f.length, refused(row[k].number, row[k].place));
+    }
+    repeated(&f, 0x23, 32, "20");
+    expect_unwritten("32 nots", &f, f.length, refused(6, 35));
+    f.length = 4;
+    tree(&f, 128);
+    memcpy(f.bytes, "\1\1\0\43", 4);
+    expect_unwritten("256 nodes", &f, f.length, refused(7, 258));
+}
+
+/* 13 comes behind every other refusal; with no space at all a text or file at fault still gets its own. */
+static void no_space(void)
+{
+    const uint8_t *line = (const uint8_t *)"pone\n ", *cut = (const uint8_t *)"ptar tatom 1";
+    expect("no space", sinkheron_read_text(line, 5, NULL, 0), refused(13, 0));
+    expect("54 before 13", sinkheron_read_text(line, 6, NULL, 0), refused(54, 5));
+    expect("53 before 13", sinkheron_read_text(cut, 12, NULL, 0), refused(53, 12));
+    expect("52 before 13", sinkheron_read_text(cut, 11, NULL, 0), refused(52, 11));
+    expect("51 before 13", sinkheron_read_text(cut, 9, NULL, 0), refused(51, 5));
+}
+
 static void nulls(void)
 {
     static struct file p;
@@ -224,6 +563,9 @@ static void nulls(void)
     expect("NULL space", sinkheron_search(p.bytes, p.length, NULL, 0), refused(13, 0));
     expect("NULL pairs, and none to list", sinkheron_list_pairs(p.bytes, p.length, NULL, 0), 0);
     expect("NULL certify", sinkheron_certify(NULL, 0), refused(1, 0));
+    expect("NULL text", sinkheron_read_text(NULL, 0, NULL, 0), refused(53, 0));
+    expect("NULL policy to write", sinkheron_write_text(NULL, 0, NULL, 0), refused(1, 0));
+    expect("NULL space to write to", sinkheron_write_text(p.bytes, p.length, NULL, 0), refused(13, 0));
 }
 
 int main(void)
@@ -234,6 +576,19 @@ int main(void)
     pairs_and_normal_forms();
     edges();
     most_nodes();
+    lines();
+    texts_with_another_word();
+    texts_without_a_number();
+    texts_that_end_early();
+    texts_that_go_on();
+    texts_with_a_zero_byte();
+    long_texts();
+    deep_texts();
+    broad_texts();
+    deep_and_broad_texts();
+    longest();
+    unwritten_files();
+    no_space();
     nulls();
     printf("%d passed, %d failed\n", passed, failed);
     return failed != 0;
