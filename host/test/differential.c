@@ -1,5 +1,5 @@
-/* The library against the model on policies and requests that are valid, cut and damaged: number, place, every field and every byte
- * of the lent memory, which ends at a page without access. Usage: differential COUNT [SEED] */
+/* The library against the model on policies, requests and texts that are valid, cut and damaged: number, place, every field and every
+ * byte of the lent memory, which ends at a page without access. Usage: differential COUNT [SEED] */
 #define _DEFAULT_SOURCE
 #include "../sinkheron.h"
 #include "guarded.h"
@@ -17,7 +17,7 @@ static uint32_t next(void)
 
 static unsigned below(unsigned n) { return next() % n; }
 
-enum { ROOM = 4096 };
+enum { ROOM = 8192 };
 
 struct bytes {
     size_t length;
@@ -81,6 +81,21 @@ static void broad(struct bytes *b, unsigned leaves)
     broad(b, leaves - leaves / 2);
 }
 
+static void nots(struct bytes *b, unsigned count)
+{
+    while (count-- > 0)
+        put(b, 0x23 + below(2));
+}
+
+/* About both limits at once: behind 255 nodes the next may be at depth 33. */
+static void broad_and_deep(struct bytes *b)
+{
+    put(b, 0x25);
+    broad(b, 111 + below(3));
+    nots(b, 30 + below(3));
+    put(b, 0x20 + below(2));
+}
+
 static void close_frame(struct bytes *b)
 {
     b->at[0] = 1;
@@ -91,10 +106,12 @@ static void close_frame(struct bytes *b)
 static void make_policy(struct bytes *b)
 {
     b->length = 3;
-    for (unsigned k = below(8) == 0 ? below(40) : 0; k > 0; k--)
-        put(b, 0x23 + below(2));
+    if (below(8) == 0)
+        nots(b, below(40));
     if (below(40) == 0)
         broad(b, 120 + below(12));
+    else if (below(400) == 0)
+        broad_and_deep(b);
     else
         policy(b, 1 + below(below(10) == 0 ? 9 : 5));
     close_frame(b);
@@ -166,16 +183,146 @@ static void damage(struct bytes *b)
     }
 }
 
+/* ---- texts */
+
+static void put_string(struct bytes *b, const char *string)
+{
+    for (; *string != 0; string++)
+        put(b, (unsigned char)*string);
+}
+
+static void put_decimal(struct bytes *b, const uint8_t *number)
+{
+    char decimal[8];
+    sprintf(decimal, " %u", (unsigned)number[0] << 8 | number[1]);
+    put_string(b, decimal);
+}
+
+/* The line of a policy file that is not damaged yet; one past the limits has a line too. */
+static void make_text(struct bytes *t, const struct bytes *p)
+{
+    static const char *const target_words[] = {"tatom", "tnot", "topt", "tand"};
+    static const char *const policy_words[] = {"pzero", "pone", "ptar", "pnot", "pdbd", "pand"};
+    t->length = 0;
+    for (size_t at = 3; at < p->length; at++) {
+        unsigned tag = p->at[at];
+        put_string(t, at == 3 ? "" : " ");
+        put_string(t, tag < 0x20 ? target_words[tag - 0x10] : policy_words[tag - 0x20]);
+        if (tag == 0x10 && at + 4 < p->length) {
+            put_decimal(t, p->at + at + 1);
+            put_decimal(t, p->at + at + 3);
+            at += 4;
+        }
+    }
+    put(t, '\n');
+}
+
+/* Slips of a hand or of an editor: the bytes that one befalls, what goes there (nothing, the byte, its whole run) and what comes. */
+enum { NOTHING, BYTE, RUN };
+#define GAPS " \n"
+#define DIGITS "0123456789"
+#define LETTERS "abdemnoprtz"
+
+static const struct slip {
+    const char *befalls;
+    int goes;
+    const char *comes;
+} slips[] = {
+    {" ", BYTE, ""}, {" ", NOTHING, " "}, {" ", BYTE, "\t"}, {" ", NOTHING, "\t"}, {" ", BYTE, "\r"}, {" ", NOTHING, "\r"}, {" ", BYTE, "\n"},
+    {" ", BYTE, "\r\n"}, {" ", BYTE, "\v"}, {" ", BYTE, "\xa0"}, {" ", BYTE, "\xc2\xa0"}, {" ", BYTE, ","}, {"\n", BYTE, ""}, {"\n", BYTE, "\r"},
+    {"\n", NOTHING, "\r"}, {"\n", NOTHING, " "}, {"\n", NOTHING, "\n"}, {"\n", BYTE, " "}, {"\n", BYTE, "\n "}, {"\n", NOTHING, " pone"},
+    {DIGITS, NOTHING, "0"}, {DIGITS, NOTHING, "+"}, {DIGITS, NOTHING, "-"}, {DIGITS, NOTHING, "1"}, {DIGITS, BYTE, ""}, {DIGITS, RUN, ""},
+    {DIGITS, RUN, "0"}, {DIGITS, RUN, "00"}, {DIGITS, RUN, "00001"}, {DIGITS, RUN, "65535"}, {DIGITS, RUN, "65536"}, {DIGITS, RUN, "65537"},
+    {DIGITS, RUN, "99999"}, {DIGITS, RUN, "100000"}, {DIGITS, RUN, "4294967297"}, {DIGITS, RUN, "18446744073709551617"},
+    {DIGITS, RUN, "12345678901234567890"}, {DIGITS, RUN, "0x10"}, {DIGITS, RUN, "pone"}, {DIGITS, BYTE, "/"}, {DIGITS, BYTE, ":"},
+    {DIGITS, BYTE, "\xb2"}, {LETTERS, BYTE, ""}, {LETTERS, NOTHING, "t"}, {LETTERS, BYTE, "p"}, {LETTERS, BYTE, "\xef"}, {LETTERS, RUN, ""},
+    {LETTERS, RUN, "tatom"}, {LETTERS, RUN, "tnot"}, {LETTERS, RUN, "topt"}, {LETTERS, RUN, "tand"}, {LETTERS, RUN, "pzero"}, {LETTERS, RUN, "pone"},
+    {LETTERS, RUN, "ptar"}, {LETTERS, RUN, "pnot"}, {LETTERS, RUN, "pdbd"}, {LETTERS, RUN, "pand"}, {LETTERS, RUN, "1"}, {GAPS, NOTHING, "s"},
+    {GAPS, NOTHING, "0"}, {GAPS, NOTHING, "\x80"},
+};
+
+/* The first byte of those from some place on, from the front again if need be; the length if there is none. */
+static size_t somewhere(const struct bytes *t, const char *bytes)
+{
+    size_t from = below((unsigned)t->length + 1), k = 0;
+    while (k < t->length && memchr(bytes, t->at[(from + k) % t->length], strlen(bytes)) == NULL)
+        k++;
+    return k < t->length ? (from + k) % t->length : t->length;
+}
+
+static int parts(uint8_t byte) { return byte == ' ' || byte == '\n'; }
+
+static size_t run_begin(const struct bytes *t, size_t at)
+{
+    while (at > 0 && !parts(t->at[at - 1]))
+        at--;
+    return at;
+}
+
+static size_t run_end(const struct bytes *t, size_t at)
+{
+    while (at < t->length && !parts(t->at[at]))
+        at++;
+    return at;
+}
+
+static void replace(struct bytes *t, size_t begin, size_t end, const char *comes)
+{
+    size_t more = strlen(comes), behind = t->length - end;
+    if (begin + more + behind > ROOM)
+        return;
+    memmove(t->at + begin + more, t->at + end, behind);
+    memcpy(t->at + begin, comes, more);
+    t->length = begin + more + behind;
+}
+
+static void slip(struct bytes *t)
+{
+    const struct slip *s = &slips[below(sizeof slips / sizeof *slips)];
+    size_t at = somewhere(t, s->befalls);
+    if (at == t->length)
+        return;
+    if (s->goes == RUN)
+        replace(t, run_begin(t, at), run_end(t, at), s->comes);
+    else
+        replace(t, at, s->goes == BYTE ? at + 1 : at, s->comes);
+}
+
+static void change_case(struct bytes *t)
+{
+    size_t at = somewhere(t, LETTERS);
+    if (at < t->length)
+        t->at[at] ^= 0x20;
+}
+
+static void damage_text(struct bytes *t)
+{
+    unsigned kind = below(16);
+    if (kind == 0 || t->length == 0)
+        t->length = below((unsigned)t->length + 1);
+    else if (kind == 1)
+        t->at[below((unsigned)t->length)] = (uint8_t)next();
+    else if (kind == 2)
+        t->at[below((unsigned)t->length)] ^= (uint8_t)(1u << below(8));
+    else if (kind == 3)
+        change_case(t);
+    else
+        slip(t);
+}
+
+/* ---- trials */
+
 static uint64_t packed(struct answer a, uint64_t values) { return a.number != 0 ? a.number | (uint64_t)a.place << 8 : values; }
 
 static const char *operation;
 
 /* What was met: a test that meets little says little. */
-static unsigned long numbers[32], sets[8], rules[8], verdicts[2], searched[17];
+enum { NUMBERS = 55 };
+static unsigned long numbers[NUMBERS], read_numbers[NUMBERS], written_numbers[NUMBERS], sets[8], rules[8], verdicts[2], searched[17];
 
 static void met(const struct answer *decided, const struct answer *certified, const struct answer *search)
 {
-    numbers[decided->number % 32]++;
+    numbers[decided->number % NUMBERS]++;
     if (search->number == 12 || search->number == 13)
         numbers[search->number]++;
     if (decided->number == 0)
@@ -202,15 +349,28 @@ static int differs(uint64_t got, uint64_t wanted, const void *left, const void *
     return got != wanted || (length > 0 && memcmp(left, expected, length) != 0);
 }
 
+static uint8_t fill[ROOM], model_space[ROOM];
+
+static void new_fill(size_t length)
+{
+    for (size_t k = 0; k < length; k++)
+        fill[k] = (uint8_t)next();
+}
+
+/* Equal memory for library and model. */
+static uint8_t *lend(const struct guarded *memory, size_t length, int at_end)
+{
+    memcpy(model_space, fill, length);
+    return guarded_copy(memory, fill, length, at_end);
+}
+
 /* The same call of library and model on equal memory. */
 static int trial(const struct bytes *p, const struct bytes *q, const struct guarded *memory, size_t space_len, int at_end)
 {
-    static uint8_t fill[ROOM], model_space[ROOM];
     static uint32_t fill32[512], model_pairs[512];
     const uint8_t *policy = guarded_copy(&memory[0], p->at, p->length, at_end), *request = guarded_copy(&memory[1], q->at, q->length, at_end);
     struct answer a, decided, certified;
-    for (size_t k = 0; k < space_len; k++)
-        fill[k] = (uint8_t)next();
+    new_fill(space_len);
     for (size_t k = 0; k < space_len / 4; k++)
         fill32[k] = next();
 
@@ -225,8 +385,7 @@ static int trial(const struct bytes *p, const struct bytes *q, const struct guar
         return 1;
 
     operation = "search";
-    uint8_t *space = guarded_copy(&memory[2], fill, space_len, at_end);
-    memcpy(model_space, fill, space_len);
+    uint8_t *space = lend(&memory[2], space_len, at_end);
     a = model_search(policy, p->length, model_space, space_len);
     if (differs(sinkheron_search(policy, p->length, space, space_len),
                 packed(a, (uint64_t)a.verdict << 8 | (uint64_t)a.pairs << 16 | (uint64_t)a.bytes << 24 | (uint64_t)a.subset << 32 | (uint64_t)a.hides << 48),
@@ -235,8 +394,7 @@ static int trial(const struct bytes *p, const struct bytes *q, const struct guar
     met(&decided, &certified, &a);
 
     operation = "normal_form";
-    space = guarded_copy(&memory[2], fill, space_len, at_end);
-    memcpy(model_space, fill, space_len);
+    space = lend(&memory[2], space_len, at_end);
     a = model_normal_form(policy, p->length, request, q->length, model_space, space_len);
     if (differs(sinkheron_normal_form(policy, p->length, request, q->length, space, space_len), packed(a, (uint64_t)a.bytes << 32), space, model_space, space_len))
         return 1;
@@ -249,6 +407,43 @@ static int trial(const struct bytes *p, const struct bytes *q, const struct guar
     return differs(sinkheron_list_pairs(policy, p->length, pairs, room), packed(a, (uint64_t)a.pairs << 16), pairs, model_pairs, room * 4);
 }
 
+/* A text read, and where it is accepted the file that the library made of it written: that gives the text again. */
+static int text_trial(const struct bytes *t, const struct guarded *memory, size_t space_len, int at_end)
+{
+    new_fill(space_len);
+    const uint8_t *text = guarded_copy(&memory[1], t->at, t->length, at_end);
+    uint8_t *space = lend(&memory[2], space_len, at_end);
+    operation = "read_text";
+    struct answer a = model_read_text(text, t->length, model_space, space_len);
+    read_numbers[a.number % NUMBERS]++;
+    if (differs(sinkheron_read_text(text, t->length, space, space_len), packed(a, (uint64_t)a.bytes << 32), space, model_space, space_len))
+        return 1;
+    if (a.number != 0)
+        return 0;
+    operation = "write_text of what read_text wrote";
+    uint8_t *line = guarded_block(&memory[0], t->length, at_end);
+    return differs(sinkheron_write_text(space, a.bytes, line, t->length), (uint64_t)t->length << 32, line, t->at, t->length);
+}
+
+static int line_trial(const struct bytes *p, const struct guarded *memory, size_t space_len, int at_end)
+{
+    new_fill(space_len);
+    const uint8_t *policy = guarded_copy(&memory[0], p->at, p->length, at_end);
+    uint8_t *space = lend(&memory[2], space_len, at_end);
+    operation = "write_text";
+    struct answer a = model_write_text(policy, p->length, model_space, space_len);
+    written_numbers[a.number % NUMBERS]++;
+    return differs(sinkheron_write_text(policy, p->length, space, space_len), packed(a, (uint64_t)a.bytes << 32), space, model_space, space_len);
+}
+
+/* A space that just suffices for so many bytes, is one short, or is of another length. */
+static size_t room_for(size_t length)
+{
+    unsigned kind = below(8);
+    size_t room = kind < 3 ? length : kind == 3 ? length - 1 : kind == 4 ? below((unsigned)length) : length + below(50);
+    return room < ROOM ? room : ROOM;
+}
+
 static void show(const char *what, const struct bytes *b)
 {
     printf("%s:", what);
@@ -257,37 +452,83 @@ static void show(const char *what, const struct bytes *b)
     putchar('\n');
 }
 
-int main(int count, char **argument)
+/* The numbers of the documents that an input can get; nothing gets 14. */
+static const uint8_t of_files[] = {0, 1, 2, 3, 4, 5, 6, 7, 8, 12, 13, 21, 22, 23, 24, 25, 26};
+static const uint8_t of_texts[] = {0, 6, 7, 13, 51, 52, 53, 54};
+static const uint8_t of_lines[] = {0, 1, 2, 3, 4, 5, 6, 7, 8, 13};
+
+static int all_met(const unsigned long *counts, const uint8_t *wanted, size_t length)
+{
+    size_t k = 0;
+    while (k < length && counts[wanted[k]] > 0)
+        k++;
+    return k == length;
+}
+
+static int every_number_met(void)
+{
+    return all_met(numbers, of_files, sizeof of_files) && all_met(read_numbers, of_texts, sizeof of_texts) &&
+           all_met(written_numbers, of_lines, sizeof of_lines);
+}
+
+struct inputs {
+    struct bytes policy, request, text;
+};
+
+static int one_trial(struct inputs *in, const struct guarded *memory, int at_end)
 {
     static const size_t lengths[] = {0, 3, 7, 8, 10, 11, 16, 129, 130, 130, 131, 131, 140, 200, 200, 260, 400, 600, 800, 1020};
-    static struct bytes p, q;
-    struct guarded memory[3] = {guarded_new(ROOM), guarded_new(ROOM), guarded_new(ROOM)};
-    unsigned long trials = count > 1 ? strtoul(argument[1], NULL, 10) : 10000;
-    state = 88172645463325252u ^ (count > 2 ? strtoull(argument[2], NULL, 10) << 20 : 0);
-    for (unsigned long k = 0; k < trials; k++) {
-        if (below(2000) == 0)
-            make_wide_policy(&p);
-        else
-            make_policy(&p);
-        make_request(&q);
-        if (below(3) == 0)
-            damage(&p);
-        if (below(3) == 0)
-            damage(&q);
-        if (trial(&p, &q, memory, lengths[below(sizeof lengths / sizeof *lengths)], (int)(k & 1))) {
-            printf("%s differs at trial %lu\n", operation, k);
-            show("policy", &p);
-            show("request", &q);
-            puts("0 passed, 1 failed");
-            return 1;
-        }
-    }
-    printf("%lu inputs, five operations each, no difference\n", trials);
-    print_counts("numbers met", numbers, 32);
+    if (below(2000) == 0)
+        make_wide_policy(&in->policy);
+    else
+        make_policy(&in->policy);
+    make_request(&in->request);
+    make_text(&in->text, &in->policy);
+    size_t file_room = room_for(in->policy.length), line_room = room_for(in->text.length);
+    if (below(3) == 0)
+        damage(&in->policy);
+    if (below(3) == 0)
+        damage(&in->request);
+    for (unsigned k = below(3); k > 0; k--)
+        damage_text(&in->text);
+    return trial(&in->policy, &in->request, memory, lengths[below(sizeof lengths / sizeof *lengths)], at_end) ||
+           text_trial(&in->text, memory, file_room, at_end) || line_trial(&in->policy, memory, line_room, at_end);
+}
+
+static void print_met(void)
+{
+    print_counts("numbers met", numbers, NUMBERS);
+    print_counts("numbers met in reading texts", read_numbers, NUMBERS);
+    print_counts("numbers met in writing texts", written_numbers, NUMBERS);
     print_counts("sets met", sets, 8);
     print_counts("certificates met", rules, 8);
     print_counts("verdicts met", verdicts, 2);
     print_counts("pairs searched", searched, 17);
+}
+
+int main(int count, char **argument)
+{
+    enum { LONG_RUN = 100000 }; /* a shorter one may miss a number */
+    static struct inputs in;
+    struct guarded memory[3] = {guarded_new(ROOM), guarded_new(ROOM), guarded_new(ROOM)};
+    unsigned long trials = count > 1 ? strtoul(argument[1], NULL, 10) : 10000;
+    state = 88172645463325252u ^ (count > 2 ? strtoull(argument[2], NULL, 10) << 20 : 0);
+    for (unsigned long k = 0; k < trials; k++) {
+        if (one_trial(&in, memory, (int)(k & 1))) {
+            printf("%s differs at trial %lu\n", operation, k);
+            show("policy", &in.policy);
+            show("request", &in.request);
+            show("text", &in.text);
+            puts("0 passed, 1 failed");
+            return 1;
+        }
+    }
+    printf("%lu inputs, seven operations each, no difference\n", trials);
+    print_met();
+    if (trials >= LONG_RUN && !every_number_met()) {
+        puts("a refusal of the documents was not met\n0 passed, 1 failed");
+        return 1;
+    }
     puts("1 passed, 0 failed");
     return 0;
 }
