@@ -4,71 +4,13 @@
  *   station POLICY           check a policy before use: exit status 0 for resistant, 1 for exposed or refused
  *
  * Status 2: wrong arguments. Status 3: a file that cannot be read or is larger than any that the library accepts. */
-#include "sinkheron.h"
+#include "program.h"
 
-#include <errno.h>
-#include <stdio.h>
-#include <string.h>
+enum { STATUS_HOLD = STATUS_REFUSED };
 
-enum { STATUS_HOLD = 1, STATUS_USAGE = 2, STATUS_FILE = 3 };
-
-/* One byte more than the largest file whose length its own header can state. */
-enum { LARGEST = 65538, ROOM = LARGEST + 1 };
-
-struct block {
-    size_t length;
-    uint8_t bytes[ROOM];
-};
-
-static int load(const char *name, struct block *into)
+static int load_file(const char *name, struct block *into)
 {
-    FILE *file = fopen(name, "rb");
-    if (file == NULL) {
-        fprintf(stderr, "station: cannot open %s: %s\n", name, strerror(errno));
-        return 0;
-    }
-    into->length = fread(into->bytes, 1, ROOM, file);
-    int failed = ferror(file);
-    fclose(file);
-    if (failed) {
-        fprintf(stderr, "station: cannot read %s\n", name);
-        return 0;
-    }
-    if (into->length > LARGEST) {
-        fprintf(stderr, "station: %s is larger than %d bytes: not a policy or request file\n", name, LARGEST);
-        return 0;
-    }
-    return 1;
-}
-
-static const char *refusal(unsigned number)
-{
-    switch (number) {
-    case 1: return "the policy file is shorter than 3 bytes";
-    case 2: return "the policy file's version byte is not 1";
-    case 3: return "the policy file's stated length is not its own";
-    case 4: return "the policy ends where a node or an atom's numbers are due";
-    case 5: return "a byte of the policy is no tag of the sort due there";
-    case 6: return "the policy is deeper than 32";
-    case 7: return "the policy has more than 255 nodes";
-    case 8: return "bytes follow the finished policy";
-    case 12: return "the policy has more than 16 pairs";
-    case 13: return "the lent space is too small";
-    case 14: return "the decision set came out empty";
-    case 21: return "the request file is shorter than 3 bytes";
-    case 22: return "the request file's version byte is not 1";
-    case 23: return "the request file's stated length is not its own";
-    case 24: return "the request's body is not a multiple of 4";
-    case 25: return "the request has more than 256 pairs";
-    case 26: return "a pair of the request is not above the one before";
-    default: return "unknown refusal";
-    }
-}
-
-static void print_refusal(const char *what, uint64_t word)
-{
-    unsigned number = sinkheron_number(word);
-    printf("%s: refused %u at %lu: %s\n", what, number, (unsigned long)sinkheron_place(word), refusal(number));
+    return load("station", name, "a policy or request file", into);
 }
 
 /* Only allow alone releases; every other set says what the batch waits for. */
@@ -93,7 +35,7 @@ static int decide(const struct block *policy, const struct block *request)
         return 0;
     }
     if (sinkheron_number(word) != 0)
-        print_refusal("hold", word);
+        print_refusal(stdout, "hold", word);
     else
         printf("hold: %s\n", hold_reason(sinkheron_set(word)));
     return STATUS_HOLD;
@@ -132,7 +74,7 @@ static int check(const struct block *policy)
     uint8_t space[130];
     uint64_t word = sinkheron_search(policy->bytes, policy->length, space, sizeof space);
     if (sinkheron_number(word) != 0) {
-        print_refusal("not checked", word);
+        print_refusal(stdout, "not checked", word);
         return STATUS_HOLD;
     }
     if (sinkheron_verdict(word) == 0) {
@@ -154,11 +96,11 @@ int main(int count, char **argument)
         fprintf(stderr, "usage: station POLICY [REQUEST]\n");
         return STATUS_USAGE;
     }
-    if (!load(argument[1], &policy))
+    if (!load_file(argument[1], &policy))
         return STATUS_FILE;
     if (count == 2)
         return check(&policy);
-    if (!load(argument[2], &request))
+    if (!load_file(argument[2], &request))
         return STATUS_FILE;
     return decide(&policy, &request);
 }
