@@ -18,7 +18,7 @@ abbrev pub IsRefusal : {A : Type 0} → Read A → Type 0
 IsRefusal x = (n : ℕ) × (at : ℕ) × (x ≡ refused n at)
 
 -- of any reading that is exact
-no-such : {A : Type 0} {IsFile : A → Type 0} (x : Read A) → ((a : A) → (x ≡ accepted a) ↔ IsFile a) → IsRefusal x ↔ ((a : A) → IsFile a → ⊥)
+pub no-such : {A : Type 0} {IsFile : A → Type 0} (x : Read A) → ((a : A) → (x ≡ accepted a) ↔ IsFile a) → IsRefusal x ↔ ((a : A) → IsFile a → ⊥)
 no-such (accepted a) exact = (λ r. let e = r .2 in absurd (true≢false cc), λ none. absurd (none a (exact a .0 refl)))
 no-such (refused n at) exact = (λ r a f. let e = exact a .1 f in absurd (true≢false cc), λ none. (n, at, refl))
 

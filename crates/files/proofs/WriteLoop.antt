@@ -23,13 +23,13 @@ module _ {from before : List ℕ} {to : ℕ} where
   copying-start = record { most = omega arith; size = refl; part = rw (add-zero to) puts-none }
 
   module _ (r : to + length from ≤ length before) {space : List ℕ} {i : ℕ} (c : Copying from before space to i) where
-    pub copying-more : i < length from → Copying from before (set space (to + i) (getD from i 0)) to (i + 1)
-    copying-more h =
+    pub copying-more : {at : ℕ} → at ≡ to + i → i < length from → Copying from before (set space at (getD from i 0)) to (i + 1)
+    copying-more {at} e h =
         let p = puts-then (c .part) (omega (arith, length-take-le i from (c .most))) (puts-byte (getD from i 0) (omega (arith, c .size))) in
         record {
           most = omega arith;
-          size = length-set space (to + i) (getD from i 0) ∙ c .size;
-          part = rw (add-one i, take-suc from i 0 h) (record { last = omega (arith, p .last); memory = p .memory });
+          size = length-set space at (getD from i 0) ∙ c .size;
+          part = rw (e, add-one i, take-suc from i 0 h) (record { last = omega (arith, p .last); memory = p .memory });
         }
 
     pub copying-end : length from ≤ i → Puts from to before space (to + i)

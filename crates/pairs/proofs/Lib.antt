@@ -4,5 +4,4 @@ pub mod Fresh
 pub mod Same
 pub mod Complete
 pub mod Keep
-pub mod Front
 pub mod Callers

@@ -3,7 +3,6 @@ use Prim.Native.Nat.{ℕ, _-_, _^_}
 use mathlib.Core.Path.{_≡_, refl, sym, ap, subst, _∙_}
 use mathlib.Core.List.{List}
 use lib.ListN.{length, take}
-use lib.Seq.{take-at}
 use borrow.Author.Tests.{eq-eqb, eqb-true}
 use native.Mathlib.Omega.{arith}
 use Rattle.ptacl.specs.Request.{Pair, Request}
@@ -19,6 +18,7 @@ use Rattle.ptacl.proofs.Rules.{nonempty}
 use Rattle.ptacl.proofs.Subset.{less-within}
 use Rattle.files.specs.Encoding.{requestFile, IsPolicy, IsRequest}
 use Rattle.files.specs.Memory.{over}
+use Rattle.files.proofs.Memory.{over-front}
 use Rattle.files.proofs.Limits.{subset-fits, normal-fits, fits-file}
 use Rattle.search.specs.Found.{twoFiles, exposureFiles}
 use Rattle.sinkheron.specs.Answer.{Answer, success, value}
@@ -28,10 +28,6 @@ use Rattle.sinkheron.specs.NormalForm.{Normalises}
 use Rattle.sinkheron.specs.Search.{Values, Searches, is-resistant, is-exposed}
 use Rattle.sinkheron.specs.Handed.{Handed, ReadBack}
 use Rattle.sinkheron.proofs.DecideOne.{decide-same}
-
-take-over : (xs s : List ℕ) → take (length xs) (over xs s) ≡ xs
-unfolding over
-take-over xs s = take-at xs _ (length xs) refl
 
 -- a request file comes to its policy's set
 decided : {s t : List ℕ} {p : Policy} {q : Request} → IsPolicy s p → IsRequest t q → Decides s t (success (code (eval p q))) tt
@@ -51,7 +47,7 @@ module _ {policy : List ℕ} {p : Policy} {ps : List Pair} {m i : ℕ} (f : IsPo
       record {
         smaller = requestFile (subset ps (m - 2 ^ i));
         larger = requestFile (subset ps m);
-        files = take-over _ before;
+        files = over-front _ before;
         less = subset ps (m - 2 ^ i);
         more = subset ps m;
         smaller-file = small;
@@ -71,7 +67,7 @@ exposure-handed (holding f (the h (passes l (passes k (is-exposed e))))) z = han
 pub normal-form-read : {policy request before after : List ℕ} {k : ℕ} → Normalises policy request before (success k) after
     → ReadBack policy request (take k after)
 normal-form-read {policy} {request} {before} (holding {f = p} f (holding {f = q} g (the {t = r} n (passes l gives)))) =
-    rw (take-over (requestFile r) before) (record { normal = r; file = file; same = same })
+    rw (over-front (requestFile r) before) (record { normal = r; file = file; same = same })
   where
     file : IsRequest (requestFile r) r
     file = fits-file (normal-fits (f .fits) n)

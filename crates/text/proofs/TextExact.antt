@@ -13,6 +13,7 @@ use Rattle.files.specs.Places.{At}
 use Rattle.files.specs.Prefix.{spell, scan}
 use Rattle.files.specs.ReadPolicy.{finish}
 use Rattle.files.proofs.Framing.{Gives}
+use Rattle.files.proofs.Refused.{IsRefusal, no-such}
 use Rattle.files.proofs.Prefix.{complete, good, finished}
 use Rattle.text.specs.Line.{lineFeed, words, line, IsText}
 use Rattle.text.specs.ReadText.{inWords, readText}
@@ -52,6 +53,10 @@ module _ (s : List ℕ) where
 -- the theorem: a text is accepted with p exactly if it is the line of p, which is within the limits
 pub text-exact : (s : List ℕ) (p : Policy) → (readText s ≡ accepted p) ↔ IsText s p
 text-exact s p = ((λ e. subst (Gives (IsText s) (Faulty s)) e (gives s)), text-reads)
+
+-- and it is refused exactly if there is no such p
+pub text-refused-iff : (s : List ℕ) → IsRefusal (readText s) ↔ ((p : Policy) → IsText s p → ⊥)
+text-refused-iff s = no-such (readText s) (text-exact s)
 
 -- a refusal's number, and its place in the text
 pub text-faulty : (s : List ℕ) {n p : ℕ} → readText s ≡ refused n p → Faulty s n p

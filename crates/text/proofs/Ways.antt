@@ -12,7 +12,7 @@ use Rattle.files.specs.Memory.{Puts}
 use Rattle.files.specs.Prefix.{Head, node, stop, Scan, done, fault, spell, below, body, scan}
 use Rattle.files.specs.Cases.{shapeName}
 use Rattle.files.specs.declared.policy.Shape.{Shape as ShapeC}
-use Rattle.files.proofs.Prefix.{Told, ToldPair, Lawful, PairsTold, Good, good, scan-at, adds}
+use Rattle.files.proofs.Prefix.{Told, ToldPair, Lawful, PairsTold, Stands, Good, good, scan-at, adds}
 use Rattle.files.proofs.Memory.{puts-length}
 use Rattle.files.proofs.PolicySteps as bytes
 use Rattle.files.proofs.PolicySeen.{never}
@@ -107,6 +107,12 @@ module _ (w : Way) (b : List ℕ) (bs : Bytes b) where
 
   -- ---- a node
 
+  -- a term that was read stands in the bytes
+  stands : (left : ℕ) (q : Sort) (e : Source w) (at k : ℕ) {t : Term q} {a c : ℕ} → at ≤ length b → scan (reader w b) left q e at k ≡ done t a c
+      → Stands (reader w b) 255 b (laws w b) left e at k t a c
+  stands left q e at k i f =
+      subst (Good (reader w b) 255 b (laws w b) left e at k) f (good (reader w b) 255 b (laws w b) (pairs-told w b bs) left q e at k i)
+
   module _ (s : Sort) (left : ℕ) (e : EndC) (at k : ℕ) where
     abbrev source : Source w
     source = sourceEnd w (endOf e)
@@ -166,7 +172,7 @@ module _ (w : Way) (b : List ℕ) (bs : Bytes b) where
         → Whole to before after (Converted.Done y) → (y .at ≤ length b) × Room y after × (y .nodes ≤ 255)
     half-room {y = y} i u l c =
         let z = converts-written its-scan c in
-        let d = subst (Good (reader w b) 255 b (laws w b) left source at k) (z .is) (good (reader w b) 255 b (laws w b) (pairs-told w b bs) left s source at k i) in
+        let d = stands left s source at k i (z .is) in
         (d .inside, record { used = omega (arith, z .puts .last, term-short w (z .its) out, d .counted); long = omega (arith, c .size) }, d .few)
 
     module _ {t : ℕ} {g : ShapeC} {next : ℕ} (o : Opened t g next) {to on : ℕ} {before mid : List ℕ} (p : Puts (marked w t g e) to before mid on)
@@ -177,8 +183,7 @@ module _ (w : Way) (b : List ℕ) (bs : Bytes b) where
       first-room : (q : Sort) (x : Term q) (a c : ℕ) → scan (reader w b) (left - 1) q (reader w b .form .between) next (k + 1) ≡ done x a c
           → to + length (output w .mark s (o .its) out ++ spell (output w) (output w .between) x) ≤ length before
       first-room q x a c f =
-          let d = subst (Good (reader w b) 255 b (laws w b) (left - 1) (reader w b .form .between) next (k + 1)) f
-          (good (reader w b) 255 b (laws w b) (pairs-told w b bs) (left - 1) q (reader w b .form .between) next (k + 1) (o .inside)) in
+          let d = stands (left - 1) q (reader w b .form .between) next (k + 1) (o .inside) f in
           omega (
             arith,
             length-append (output w .mark s (o .its) out) (spell (output w) (output w .between) x),

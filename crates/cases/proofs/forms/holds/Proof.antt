@@ -8,8 +8,8 @@ pub holds-spec : {M : Type 1} → statement M
 holds-spec =
     tie.close
     (tie.spec
-    (λ _ _ _ _ _. Unit {0})
-    (λ _ _ _ _ i. 2048 - i)
+    (λ _ _ _ _ _ _. Unit {0})
+    (λ _ _ _ _ _ i. 2048 - i)
     (λ c. search needs)
     (λ c κs. search needs)
     (λ c κs. search needs)

@@ -1,5 +1,6 @@
 -- `copy` puts the bytes one behind another.
 use Prim.Native.Nat.{_-_}
+use mathlib.Core.Path.{refl}
 use native.Mathlib.Omega.{arith}
 use borrow.Author.Needs.{needs}
 use lib.ListN.{length}
@@ -25,7 +26,7 @@ copy-spec =
     (λ c. let i = c .before .before .loop .inv in omega arith)
     (λ c. search needs)
     (λ c. search needs)
-    (λ c. copying-more (c .before .before .before .pre) (c .before .before .loop .inv) (c .before .loop-test .taken))
+    (λ c. copying-more (c .before .before .before .pre) (c .before .before .loop .inv) refl (c .before .loop-test .taken))
     (λ c. let i = c .before .loop .inv in omega arith)
     (λ c. c .before .loop .inv .size)
     (λ c. copying-end (c .before .before .pre) (c .before .loop .inv) (c .loop-test .left)))
