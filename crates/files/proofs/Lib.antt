@@ -11,6 +11,7 @@ pub mod WriteLoop
 pub mod WorkedRequest
 pub mod Places
 pub mod Prefix
+pub mod SingleByte
 pub mod PolicySteps
 pub mod PolicySeen
 pub mod PolicyComplete

@@ -11,7 +11,7 @@ use Rattle.ptacl.specs.Term.{Sort, target, policy, Policy, Node, tagOf, Shape, 
 use Rattle.files.specs.Encoding.{bytes}
 use Rattle.files.specs.Refusal.{refused, accepted, dec16, unframed}
 use Rattle.files.specs.Prefix.{Head, node, stop, Scan, done, fault, andThen, Subterms, below, body, scan}
-use Rattle.files.specs.ReadPolicy.{Byte, tag, unknown, byteAt, limitOf, tagged, headAt, pairAt, inBytes, finish, readPolicy}
+use Rattle.files.specs.ReadPolicy.{otherSort, Byte, tag, other, unknown, byteAt, limitOf, tagged, headAt, pairAt, inBytes, finish, readPolicy}
 use Rattle.files.specs.Cases.{sortOf, sortName, shapeName, byteOf, headOf, seen, wordOf, Small, Scans, Tells, Finishes, policyRead, frameOf}
 use Rattle.files.specs.declared.frame.Frame.{Frame}
 use Rattle.files.specs.declared.policy.Sort.{Sort as SortC}
@@ -24,7 +24,8 @@ use borrow.Author.Tests.{ltb-true}
 use Rattle.ptacl.proofs.Bools.{either}
 use Rattle.files.proofs.Framing.{whole-frame, refused-frame}
 use Rattle.files.proofs.Prefix.{Told, scan-at}
-use Rattle.files.proofs.PolicySteps.{Faulty, byte-found, byte-laws}
+use Rattle.files.proofs.SingleByte.{byte-found}
+use Rattle.files.proofs.PolicySteps.{Faulty, byte-laws}
 
 pub never : {A : Type 0} → _≡_ {A = ℕ} 0 1 → A
 never e = absurd (omega arith)
@@ -37,10 +38,17 @@ pub record Names {s : Sort} (x : Byte s) (g : ShapeC) : Type 0 where
 
 pub byte-tag : {s : Sort} (x : Byte s) (g : ShapeC) → byteOf x ≡ ByteC.Tag g → Names x g
 byte-tag (tag n) g e = record { its = n; is = refl; so = cc }
+byte-tag (other n) g e = never (cc)
 byte-tag unknown g e = never (cc)
+
+pub byte-other : {s : Sort} (x : Byte s) → byteOf x ≡ ByteC.Other → (n : Node (otherSort s)) × (x ≡ other n)
+byte-other (tag n) e = never (cc)
+byte-other (other n) e = (n, refl)
+byte-other unknown e = never (cc)
 
 pub byte-unknown : {s : Sort} (x : Byte s) → byteOf x ≡ ByteC.Unknown → x ≡ unknown
 byte-unknown (tag n) e = never (cc)
+byte-unknown (other n) e = never (cc)
 byte-unknown unknown e = refl
 
 -- a body, by what is seen of its head and of the terms below it
@@ -129,17 +137,18 @@ module _ (most : ℕ) (b : List ℕ) (s : Sort) (left at nodes : ℕ) where
       within n true q e = record { its = n; byte = byte-found s _ n q; so = cc; behind = cc }
       within n false q e = never (cc)
 
-      go : (a : Bool) (x : Byte s) → byteAt s (getD b at 0) ≡ x → headOf (cond a (tagged 5 (limitOf most left nodes) at (λ n. node n (at + 1)) x) (stop 4 (length b))) ≡ HeadC.Node g next
+      go : (a : Bool) (x : Byte s) → byteAt s (getD b at 0) ≡ x → headOf (cond a (tagged 15 5 (limitOf most left nodes) at (λ n. node n (at + 1)) x) (stop 4 (length b))) ≡ HeadC.Node g next
           → Tagged b s at g next
       go true (tag n) q e = within n (eqb (limitOf most left nodes) 0) q e
+      go true (other n) q e = never (cc)
       go true unknown q e = never (cc)
       go false x q e = never (cc)
 
-  pub stop-within : (number place : ℕ) → headOf (headAt most b s left at nodes) ≡ HeadC.Stop number place → (number ≤ 8) × (place ≤ length b)
+  pub stop-within : (number place : ℕ) → headOf (headAt most b s left at nodes) ≡ HeadC.Stop number place → (number ≤ 15) × (place ≤ length b)
   stop-within number place = go (headAt most b s left at nodes) (byte-laws most b .head-told s left tt at nodes)
     where
       go : (h : Head s) → Told bytes most b (Faulty b) left tt at nodes h → headOf h ≡ HeadC.Stop number place
-          → (number ≤ 8) × (place ≤ length b)
+          → (number ≤ 15) × (place ≤ length b)
       go (node n q) w e = never (cc)
       go (stop m q) w e = let k : m ≡ number = cc in let l : q ≡ place = cc in (omega (arith, w .high), omega (arith, w .within))
 

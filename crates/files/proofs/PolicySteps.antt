@@ -1,28 +1,33 @@
 -- What a head is; and that bytes are read as they are written.
 use Prim.Native.Nat.{ℕ, _+_, _≤_, _<_}
-use mathlib.Core.Path.{_≡_, refl, sym, ap, _∙_}
-use mathlib.Core.Bool.{Bool, true, false, true≢false, cond}
+use mathlib.Core.Path.{_≡_, refl, ap, _∙_}
+use mathlib.Core.Bool.{Bool, true, false, cond}
 use mathlib.Core.List.{List, [], _∷_}
 use native.Mathlib.Omega.{arith}
 use lib.Dec.{ltb, eqb}
 use lib.ListN.{length, getD, drop}
-use borrow.Author.Tests.{ltb-true, eqb-true, eqb-false, lt-ltb, le-ltb, ne-eqb}
-use Rattle.ptacl.specs.Term.{Sort, target, policy, Node, anAtom, aDeny, anAllow, aTargeted, aNot, aDefault, anAnd, tagOf}
+use borrow.Author.Tests.{ltb-true, eqb-false, lt-ltb, le-ltb, ne-eqb}
+use Rattle.ptacl.specs.Term.{Sort, Node, tagOf}
 use Rattle.ptacl.proofs.Bools.{either}
 use Rattle.files.specs.Encoding.{big, bytes, InRange, Bytes}
 use Rattle.files.specs.Refusal.{dec16}
 use Rattle.files.specs.Prefix.{Head, node, stop, done, fault}
-use Rattle.files.specs.ReadPolicy.{Byte, tag, unknown, find, nodesOf, byteAt, limitOf, tagged, headAt, pairAt, inBytes}
+use Rattle.files.specs.ReadPolicy.{otherSort, Byte, tag, other, unknown, byteAt, limitOf, tagged, headAt, pairAt, inBytes}
 use Rattle.files.specs.Places.{At}
 use Rattle.files.proofs.BigEndian.{dec16-big, drop-big, dec16-range, big-dec16}
+use Rattle.files.proofs.SingleByte.{byte-found, known}
 use Rattle.files.proofs.Places.{room, head, tail, more}
 use Rattle.files.proofs.Prefix.{Told, ToldPair, Lawful, PairsTold}
 
--- the four cases of a head
+-- the cases of a head
 module _ (most : ℕ) (b : List ℕ) {s : Sort} (left at nodes : ℕ) where
   pub head-cut : length b ≤ at → headAt most b s left at nodes ≡ stop 4 (length b)
   unfolding headAt
   head-cut h = simp (le-ltb _ _ h)
+
+  pub head-other : (n : Node (otherSort s)) → at < length b → byteAt s (getD b at 0) ≡ other n → headAt most b s left at nodes ≡ stop 15 at
+  unfolding headAt
+  head-other n h k = simp (lt-ltb _ _ h, k)
 
   pub head-unknown : at < length b → byteAt s (getD b at 0) ≡ unknown → headAt most b s left at nodes ≡ stop 5 at
   unfolding headAt
@@ -36,22 +41,6 @@ module _ (most : ℕ) (b : List ℕ) {s : Sort} (left at nodes : ℕ) where
     pub head-node : limitOf most left nodes ≡ 0 → headAt most b s left at nodes ≡ node n (at + 1)
     unfolding headAt
     head-node e = rw (lt-ltb _ _ h, k, e)
-
--- a node that is found meets the test
-pub found : {s : Sort} (test : Node s → Bool) (ns : List (Node s)) (n : Node s) → find test ns ≡ tag n → test n ≡ true
-found test [] n e = absurd (true≢false cc)
-found {s} test (m ∷ ns) n e = go (test m) refl (found test ns n) e
-  where
-    untag : tag m ≡ tag n → m ≡ n
-    untag e = cc
-
-    go : (x : Bool) → test m ≡ x → (find test ns ≡ tag n → test n ≡ true) → cond x (tag m) (find test ns) ≡ tag n → test n ≡ true
-    go true p f e = ap (λ (k : Node s). test k) (sym (untag e)) ∙ p
-    go false p f e = f e
-
-pub byte-found : (s : Sort) (b : ℕ) (n : Node s) → byteAt s b ≡ tag n → b ≡ tagOf n
-unfolding byteAt
-byte-found s b n e = eqb-true _ _ (found (λ n. eqb b (tagOf n)) (nodesOf s) n e)
 
 -- the limits at a node are kept, or it is 6 or 7
 data Limits (most left nodes number : ℕ) : Type 0 where
@@ -70,43 +59,23 @@ limits most left nodes = go (eqb left 0) (ltb nodes most) refl refl
 pub limits-are : {most left nodes : ℕ} → 1 ≤ left → nodes < most → limitOf most left nodes ≡ 0
 limits-are {most} {left} {nodes} d f = simp (ne-eqb left 0 (λ e. omega arith), lt-ltb nodes most f)
 
--- a property of a head, by its cases: it is strange, 6 or 7, or a node within the limits
-pub tagged-told : {s : Sort} (P : Head s → Type 0) {strange at : ℕ} {follows : Node s → Head s} (most left nodes : ℕ) (x : Byte s)
-    → P (stop strange at) → ((l : ℕ) → 6 ≤ l → l ≤ 7 → P (stop l at)) → ((n : Node s) → x ≡ tag n → 1 ≤ left → nodes < most → P (follows n))
-    → P (tagged strange (limitOf most left nodes) at follows x)
-tagged-told P most left nodes unknown f g h = f
-tagged-told P {at = at} {follows = follows} most left nodes (tag n) f g h = go (limits most left nodes)
+-- a property of a head, by its cases: it is a slip, strange, 6 or 7, or a node within the limits
+pub tagged-told : {s : Sort} (P : Head s → Type 0) {slip strange at : ℕ} {follows : Node s → Head s} (most left nodes : ℕ) (x : Byte s)
+    → ((n : Node (otherSort s)) → x ≡ other n → P (stop slip at)) → (x ≡ unknown → P (stop strange at)) → ((l : ℕ) → 6 ≤ l → l ≤ 7 → P (stop l at))
+    → ((n : Node s) → x ≡ tag n → 1 ≤ left → nodes < most → P (follows n)) → P (tagged slip strange (limitOf most left nodes) at follows x)
+tagged-told P most left nodes (other n) d f g h = d n refl
+tagged-told P most left nodes unknown d f g h = f refl
+tagged-told P {at = at} {follows = follows} most left nodes (tag n) d f g h = go (limits most left nodes)
   where
     go : {l : ℕ} → Limits most left nodes l → P (cond (eqb l 0) (follows n) (stop l at))
     go (kept e d k) = rw e (h n refl d k)
     go {l} (passed a c) = rw (ne-eqb l 0 (λ e. omega arith)) (g l a c)
 
--- a refusal is one of 4 to 8, at a place of the file
+-- a refusal's number is from 4 to 15, its place one of the file
 pub record Faulty (b : List ℕ) (number place : ℕ) : Type 0 where
   pub low : 4 ≤ number
-  pub high : number ≤ 8
+  pub high : number ≤ 15
   pub within : place ≤ length b
-
--- every node is known by its byte
-pub known : {s : Sort} (n : Node s) → byteAt s (tagOf n) ≡ tag n
-unfolding byteAt
-known anAtom = refl
-known aDeny = refl
-known anAllow = refl
-known aTargeted = refl
-known (aNot target) = refl
-known (aNot policy) = refl
-known (aDefault target) = refl
-known (aDefault policy) = refl
-known (anAnd target) = refl
-known (anAnd policy) = refl
-
--- so a byte is that of one node of the sort
-pub same-node : {s : Sort} (m n : Node s) → tagOf m ≡ tagOf n → m ≡ n
-same-node {s} m n e = go (sym (known m) ∙ ap (byteAt s) e ∙ known n)
-  where
-    go : tag m ≡ tag n → m ≡ n
-    go e = cc
 
 module _ (most : ℕ) (b : List ℕ) where
   head-told : (s : Sort) (left : ℕ) (end : Unit {0}) (at k : ℕ) → Told bytes most b (Faulty b) left end at k (headAt most b s left at k)
@@ -114,7 +83,8 @@ module _ (most : ℕ) (b : List ℕ) where
   head-told s left end at k = either (ltb at (length b))
       (λ e. let i = ltb-true at (length b) e in rw e
       (tagged-told (Told bytes most b (Faulty b) left end at k) most left k (byteAt s (getD b at 0))
-      (record { low = omega arith; high = omega arith; within = omega arith })
+      (λ n q. record { low = omega arith; high = omega arith; within = omega arith })
+      (λ q. record { low = omega arith; high = omega arith; within = omega arith })
       (λ l f g. record { low = omega arith; high = omega arith; within = omega arith })
       (λ n q d f. record {
         bytes = more b at i ∙ ap (λ (x : ℕ). x ∷ drop (at + 1) b) (byte-found s _ n q);

@@ -18,7 +18,7 @@ use Rattle.files.specs.Cases.{policyRead}
 use Rattle.files.specs.declared.policy.PolicyRead.{PolicyRead}
 use Rattle.files.proofs.Places.{room, head, tail, left, right, pair-room, pair-name, pair-value}
 use Rattle.files.proofs.Prefix.{Adds, adds}
-use Rattle.files.proofs.PolicySteps.{same-node}
+use Rattle.files.proofs.SingleByte.{same-node}
 use Rattle.files.proofs.PolicyExact.{policy-exact}
 
 -- every term that stands at i ends before m

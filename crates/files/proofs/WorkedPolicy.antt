@@ -27,7 +27,8 @@ pub two-bytes : (x y : ℕ) → readPolicy (x ∷ y ∷ []) ≡ refused 1 2
 unfolding readPolicy unframed
 two-bytes x y = refl
 
--- an empty body is 4 at 3; an atom that is cut is 4 at the file's length; a policy's tag where a target is due is 5 at the tag
+-- an empty body is 4 at 3; an atom that is cut is 4 at the file's length; a policy's tag where a target is due, or a target's where a policy
+-- is, is 15 at the tag; a byte that is no tag is 5
 pub empty-body : readPolicy (1 ∷ 0 ∷ 0 ∷ []) ≡ refused 4 3
 unfolding readPolicy unframed scan body below headAt byteAt pairAt
 empty-body = refl
@@ -36,9 +37,17 @@ pub cut-atom : readPolicy (1 ∷ 0 ∷ 5 ∷ 0x22 ∷ 0x10 ∷ 0 ∷ 1 ∷ 0 ∷
 unfolding readPolicy unframed scan body below headAt byteAt pairAt
 cut-atom = refl
 
-pub wrong-sort : readPolicy (1 ∷ 0 ∷ 2 ∷ 0x22 ∷ 0x20 ∷ []) ≡ refused 5 4
+pub policy-slipped : readPolicy (1 ∷ 0 ∷ 2 ∷ 0x22 ∷ 0x20 ∷ []) ≡ refused 15 4
 unfolding readPolicy unframed scan body below headAt byteAt pairAt
-wrong-sort = refl
+policy-slipped = refl
+
+pub target-slipped : readPolicy (1 ∷ 0 ∷ 7 ∷ 0x22 ∷ 0x10 ∷ 0 ∷ 1 ∷ 0 ∷ 1 ∷ 0x10 ∷ []) ≡ refused 15 9
+unfolding readPolicy unframed scan body below headAt byteAt pairAt
+target-slipped = refl
+
+pub no-tag : readPolicy (1 ∷ 0 ∷ 2 ∷ 0x22 ∷ 0x14 ∷ []) ≡ refused 5 4
+unfolding readPolicy unframed scan body below headAt byteAt pairAt
+no-tag = refl
 
 -- 31 policy nots over allow are read, 32 are refused 6 at 35
 abbrev nots : ℕ → Policy → Policy
@@ -52,6 +61,11 @@ depth-32 = refl
 pub depth-33 : readPolicy (1 ∷ 0 ∷ 33 ∷ (replicate 32 0x23 ++ (0x21 ∷ []))) ≡ refused 6 35
 unfolding readPolicy unframed scan body below headAt byteAt pairAt
 depth-33 = refl
+
+-- at depth 33 a slip is still 15
+pub slip-33 : readPolicy (1 ∷ 0 ∷ 33 ∷ (replicate 32 0x23 ++ (0x10 ∷ []))) ≡ refused 15 35
+unfolding readPolicy unframed scan body below headAt byteAt pairAt
+slip-33 = refl
 
 -- 255 nodes are read, a 256th is 7 at its tag, but 6 where it is at depth 33 too
 abbrev tree : ℕ → Policy

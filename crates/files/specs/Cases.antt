@@ -5,7 +5,7 @@ use Rattle.ptacl.specs.Request.{Request}
 use Rattle.ptacl.specs.Term.{Sort, target, policy, Policy, Shape, numbers, leaf, one, two, shape}
 use Rattle.files.specs.Refusal.{Read, accepted, refused}
 use Rattle.files.specs.Prefix.{Head, node, stop, Scan, done, fault}
-use Rattle.files.specs.ReadPolicy.{Byte, tag, unknown, finish}
+use Rattle.files.specs.ReadPolicy.{Byte, tag, other, unknown, finish}
 use Rattle.files.specs.declared.policy.Sort.{Sort as SortC}
 use Rattle.files.specs.declared.policy.Shape.{Shape as ShapeC}
 use Rattle.files.specs.declared.policy.Byte.{Byte as ByteC}
@@ -29,8 +29,18 @@ shapeName (leaf t) = ShapeC.Leaf
 shapeName (one f) = ShapeC.One
 shapeName (two r f) = ShapeC.Two (sortName r)
 
+-- the tags of a sort are the bytes from its first to its last
+abbrev pub firstTag : Sort → ℕ
+firstTag target = 0x10
+firstTag policy = 0x20
+
+abbrev pub lastTag : Sort → ℕ
+lastTag target = 0x13
+lastTag policy = 0x25
+
 abbrev pub byteOf : {s : Sort} → Byte s → ByteC
 byteOf (tag n) = ByteC.Tag (shapeName (shape n))
+byteOf (other n) = ByteC.Other
 byteOf unknown = ByteC.Unknown
 
 abbrev pub headOf : {s : Sort} → Head s → HeadC

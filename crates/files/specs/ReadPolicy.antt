@@ -15,32 +15,38 @@ abbrev pub nodesOf : (s : Sort) → List (Node s)
 nodesOf target = anAtom ∷ aNot target ∷ aDefault target ∷ anAnd target ∷ []
 nodesOf policy = aDeny ∷ anAllow ∷ aTargeted ∷ aNot policy ∷ aDefault policy ∷ anAnd policy ∷ []
 
--- what a byte is where a node of a sort is due
+abbrev pub otherSort : Sort → Sort
+otherSort target = policy
+otherSort policy = target
+
+-- what a byte is where a node of a sort is due; document 02, C-12: a tag of the sort, a tag of the other sort, or no tag at all
 pub data Byte (s : Sort) : Type 0 where
   tag : Node s → Byte s
+  other : Node (otherSort s) → Byte s
   unknown : Byte s
 
--- the first node that meets a test
-abbrev pub find : {s : Sort} → (Node s → Bool) → List (Node s) → Byte s
-find test [] = unknown
-find test (n ∷ ns) = cond (test n) (tag n) (find test ns)
+-- what the first of these nodes that meets a test is; if there is none, what is said last
+abbrev pub find : {s : Sort} {A : Type 0} → (Node s → Bool) → (Node s → A) → List (Node s) → A → A
+find test is [] none = none
+find test is (n ∷ ns) none = cond (test n) (is n) (find test is ns none)
 
 unfoldable pub byteAt : (s : Sort) → ℕ → Byte s
-byteAt s b = find (λ n. eqb b (tagOf n)) (nodesOf s)
+byteAt s b = find (λ n. eqb b (tagOf n)) tag (nodesOf s) (find (λ n. eqb b (tagOf n)) other (nodesOf (otherSort s)) unknown)
 
 -- a node with that much depth left and that many nodes before it, of most: 6, 7, or 0 for neither
 abbrev pub limitOf : ℕ → ℕ → ℕ → ℕ
 limitOf most left nodes = cond (eqb left 0) 6 (cond (ltb nodes most) 0 7)
 
--- at one node: that it is none of the sort's, then 6, 7, then what follows
-abbrev pub tagged : {s : Sort} → ℕ → ℕ → ℕ → (Node s → Head s) → Byte s → Head s
-tagged strange number at follows unknown = stop strange at
-tagged strange number at follows (tag n) = cond (eqb number 0) (follows n) (stop number at)
+-- at one node: that it is none of the sort's, a slip or strange; then 6, 7, then what follows
+abbrev pub tagged : {s : Sort} → ℕ → ℕ → ℕ → ℕ → (Node s → Head s) → Byte s → Head s
+tagged slip strange number at follows (other n) = stop slip at
+tagged slip strange number at follows unknown = stop strange at
+tagged slip strange number at follows (tag n) = cond (eqb number 0) (follows n) (stop number at)
 
--- 4 (no tag), 5, 6, 7
+-- 4 (no byte), 15 or 5, 6, 7
 unfoldable pub headAt : ℕ → List ℕ → (s : Sort) → ℕ → ℕ → ℕ → Head s
 headAt most b s left at nodes =
-    cond (ltb at (length b)) (tagged 5 (limitOf most left nodes) at (λ n. node n (at + 1)) (byteAt s (getD b at 0))) (stop 4 (length b))
+    cond (ltb at (length b)) (tagged 15 5 (limitOf most left nodes) at (λ n. node n (at + 1)) (byteAt s (getD b at 0))) (stop 4 (length b))
 
 -- the four bytes of an atom's numbers; 4 (atom cut) where they are not there
 unfoldable pub pairAt : List ℕ → ℕ → ℕ → Scan Pair
@@ -55,6 +61,6 @@ abbrev pub finish : ℕ → ℕ → Scan Policy → Read Policy
 finish excess len (done p next nodes) = cond (ltb next len) (refused excess next) (accepted p)
 finish excess len (fault number place) = refused number place
 
--- 1, 2, 3, then 4 to 8 as met from left to right
+-- 1, 2, 3, then 4 to 8 and 15 as met from left to right
 unfoldable pub readPolicy : List ℕ → Read Policy
 readPolicy s = unframed 1 s (finish 8 (length s) (scan (inBytes 255 s) 32 policy tt 3 0))

@@ -29,9 +29,10 @@ pub enum Shape {
     Two(Sort),
 }
 
-// What a byte is where a node of a sort is due.
+// What a byte is where a node of a sort is due: a tag of the sort, a tag of the other sort, or no tag at all.
 pub enum Byte {
     Tag(Shape),
+    Other,
     Unknown,
 }
 
@@ -60,6 +61,7 @@ fn target_byte(b: u8) -> Byte
         tags::TARGET_NOT => Byte::Tag(Shape::One),
         tags::TARGET_OPTIONAL => Byte::Tag(Shape::One),
         tags::TARGET_AND => Byte::Tag(Shape::Two(Sort::Target)),
+        tags::DENY..=tags::POLICY_AND => Byte::Other,
         _ => Byte::Unknown,
     }
 }
@@ -74,6 +76,7 @@ fn policy_byte(b: u8) -> Byte
         tags::POLICY_NOT => Byte::Tag(Shape::One),
         tags::DENY_BY_DEFAULT => Byte::Tag(Shape::One),
         tags::POLICY_AND => Byte::Tag(Shape::Two(Sort::Policy)),
+        tags::TARGET_ATOM..=tags::TARGET_AND => Byte::Other,
         _ => Byte::Unknown,
     }
 }
@@ -120,6 +123,10 @@ pub fn head_at(file: &[u8], sort: Sort, left: usize, at: usize, nodes: usize) ->
                 next: at + 1,
             }
         }
+        Byte::Other => Head::Stop {
+            number: 15,
+            place: at,
+        },
         Byte::Unknown => Head::Stop {
             number: 5,
             place: at,

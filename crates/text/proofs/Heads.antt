@@ -8,7 +8,7 @@ use Rattle.ptacl.specs.Term.{Sort, Node, tagOf, Shape, numbers, leaf, one, two,
 use Rattle.files.specs.Encoding.{bytes}
 use Rattle.files.specs.Refusal.{Read}
 use Rattle.files.specs.Prefix.{Head, node, stop}
-use Rattle.files.specs.ReadPolicy.{byteAt, limitOf}
+use Rattle.files.specs.ReadPolicy.{Byte, tag, other, unknown, byteAt, limitOf, tagged}
 use Rattle.files.specs.ReadPolicy as P
 use Rattle.files.specs.Places.{At}
 use Rattle.files.specs.Cases.{byteOf, headOf, shapeName}
@@ -17,8 +17,9 @@ use Rattle.files.specs.declared.policy.Byte.{Byte as ByteC}
 use Rattle.files.specs.declared.policy.Head.{Head as HeadC}
 use Rattle.files.proofs.Places.{room, head}
 use Rattle.files.proofs.Prefix.{Told}
-use Rattle.files.proofs.PolicySteps.{Faulty, byte-found, byte-laws}
-use Rattle.files.proofs.PolicySeen.{never, Names, byte-tag, byte-unknown}
+use Rattle.files.proofs.SingleByte.{byte-found}
+use Rattle.files.proofs.PolicySteps.{Faulty, byte-laws}
+use Rattle.files.proofs.PolicySeen.{never, Names, byte-tag}
 use Rattle.text.specs.Line.{End, behind}
 use Rattle.text.specs.ReadText.{runAt, wordAt, past, opened, headAt}
 use Rattle.text.specs.Cases.{endOf, follows, stepOf, metOf}
@@ -39,6 +40,13 @@ pub word-cut : (b : List ℕ) (s : Sort) (left : ℕ) (e : End) (at k : ℕ) →
 unfolding headAt
 word-cut b s left e at k h = rw (le-ltb at (length b) h)
 
+-- what is no tag of the sort is 51
+no-tag : {s : Sort} (number at : ℕ) (follows : Node s → Head s) (x : Byte s) → ((g : ShapeC) → byteOf x ≡ ByteC.Tag g → ⊥)
+    → Met.Stop 51 at ≡ metOf (tagged 51 51 number at follows x)
+no-tag number at follows (tag n) u = absurd (u _ refl)
+no-tag number at follows (other n) u = refl
+no-tag number at follows unknown u = refl
+
 -- a run of the text, where it ends, and the tag that the code finds for it
 pub record RunAt (b : List ℕ) (s : Sort) (at stop t : ℕ) : Type 0 where
   pub inside : at < length b
@@ -52,9 +60,9 @@ module _ {b : List ℕ} {s : Sort} {at stop t : ℕ} (r : RunAt b s at stop t) (
   found : wordAt s (runAt b at) ≡ byteAt s t
   found = ap (wordAt s) (sym (run-part b at (r .ends))) ∙ sym (r .its)
 
-  pub word-strange : byteOf (byteAt s t) ≡ ByteC.Unknown → Met.Stop 51 at ≡ metOf wordHead
+  pub word-strange : ((g : ShapeC) → byteOf (byteAt s t) ≡ ByteC.Tag g → ⊥) → Met.Stop 51 at ≡ metOf wordHead
   unfolding headAt
-  word-strange u = rw (lt-ltb at (length b) (r .inside), found, byte-unknown (byteAt s t) u)
+  word-strange u = rw (lt-ltb at (length b) (r .inside), found) (no-tag _ at _ (byteAt s t) u)
 
   module _ {g : ShapeC} (u : byteOf (byteAt s t) ≡ ByteC.Tag g) {l : ℕ} (d : l ≡ limitOf 255 left k) where
     named : Names (byteAt s t) g

@@ -10,11 +10,12 @@ use borrow.Author.Tests.{ltb-true}
 use Rattle.ptacl.specs.Term.{Sort, target, policy, Node, tagOf}
 use Rattle.ptacl.proofs.Bools.{and-left, and-right}
 use Rattle.ptacl.proofs.Finite.{at-node}
-use Rattle.files.specs.ReadPolicy.{tag, unknown, nodesOf, find, byteAt}
-use Rattle.files.proofs.PolicySteps.{known}
+use Rattle.files.specs.ReadPolicy.{Byte, tag, unknown, nodesOf, find, byteAt}
+use Rattle.files.specs.Cases.{firstTag, lastTag}
+use Rattle.files.proofs.SingleByte.{known}
 use Rattle.text.specs.Words.{word}
 use Rattle.text.specs.ReadText.{same, wordAt}
-use Rattle.text.specs.Cases.{IsTag, table, begins, closes, rowOf, firstTag, lastTag}
+use Rattle.text.specs.Cases.{IsTag, table, begins, closes, rowOf}
 use Rattle.text.proofs.Runs.{same-true}
 
 -- ---- a row
@@ -80,12 +81,16 @@ data Counted {s : Sort} : ℕ → List (Node s) → Type 0 where
   no-more : {t : ℕ} → Counted t []
   counted : {t : ℕ} {n : Node s} {ns : List (Node s)} → t ≡ tagOf n → Counted (t + 1) ns → Counted t (n ∷ ns)
 
+-- what a run is among these nodes
+abbrev among : {s : Sort} → List ℕ → List (Node s) → Byte s
+among w ns = find (λ n. same w (word n)) tag ns unknown
+
 -- the nodes from a tag on; if a run is the word of any node, it is that of one of them
 pub record Untried (s : Sort) (w : List ℕ) (t : ℕ) : Type 0 where
   nodes : List (Node s)
   tags : Counted t nodes
   last : t + length nodes ≡ lastTag s + 1
-  rest : find (λ n. same w (word n)) nodes ≡ wordAt s w
+  rest : among w nodes ≡ wordAt s w
 
 pub untried : (s : Sort) (w : List ℕ) → Untried s w (firstTag s)
 unfolding wordAt
@@ -105,12 +110,12 @@ module _ {s : Sort} {w : List ℕ} {t : ℕ} (u : Untried s w t) where
       others : List (Node s)
       tags : Counted (t + 1) others
       last : t + 1 + length others ≡ lastTag s + 1
-      rest : cond (same w (rowOf t)) (tag its) (find (λ n. same w (word n)) others) ≡ wordAt s w
+      rest : cond (same w (rowOf t)) (tag its) (among w others) ≡ wordAt s w
 
     trying : Trying
     trying = go (u .nodes) (u .tags) (u .last) (u .rest)
       where
-        go : (ns : List (Node s)) → Counted t ns → t + length ns ≡ lastTag s + 1 → find (λ n. same w (word n)) ns ≡ wordAt s w → Trying
+        go : (ns : List (Node s)) → Counted t ns → t + length ns ≡ lastTag s + 1 → among w ns ≡ wordAt s w → Trying
         go [] c e f = absurd (omega arith)
         go (n ∷ ns) (counted g c) e f = record {
           its = n;
@@ -118,7 +123,7 @@ module _ {s : Sort} {w : List ℕ} {t : ℕ} (u : Untried s w t) where
           others = ns;
           tags = c;
           last = omega arith;
-          rest = ap (λ x. cond (same w x) (tag n) (find (λ n. same w (word n)) ns)) (ap rowOf g ∙ row-word n) ∙ f;
+          rest = ap (λ x. cond (same w x) (tag n) (among w ns)) (ap rowOf g ∙ row-word n) ∙ f;
         }
 
     pub untried-tag : IsTag t
@@ -142,6 +147,6 @@ module _ {s : Sort} {w : List ℕ} {t : ℕ} (u : Untried s w t) where
       none target = refl
       none policy = refl
 
-      go : (ns : List (Node s)) → t + length ns ≡ lastTag s + 1 → find (λ n. same w (word n)) ns ≡ wordAt s w → unknown ≡ wordAt s w
+      go : (ns : List (Node s)) → t + length ns ≡ lastTag s + 1 → among w ns ≡ wordAt s w → unknown ≡ wordAt s w
       go [] d f = f
       go (n ∷ ns) d f = absurd (omega arith)

@@ -1,6 +1,6 @@
 -- Words are read as they are written, and what is read was written: what reading in prefix order asks of a form.
 use Prim.Native.Nat.{ℕ, _+_, _≤_, _<_}
-use mathlib.Core.Path.{_≡_, refl, sym, ap, _∙_}
+use mathlib.Core.Path.{_≡_, refl, sym, ap, subst, _∙_}
 use mathlib.Core.Bool.{true}
 use mathlib.Core.List.{List, [], _∷_, _++_, append-assoc}
 use native.Mathlib.Omega.{arith}
@@ -17,7 +17,8 @@ use Rattle.files.specs.Prefix.{Head, node, stop, Scan, done, fault}
 use Rattle.files.specs.ReadPolicy.{tag, nodesOf}
 use Rattle.files.proofs.Places.{room, left, right}
 use Rattle.files.proofs.Prefix.{Told, ToldPair, Lawful, PairsTold}
-use Rattle.files.proofs.PolicySteps.{found, limits-are, tagged-told}
+use Rattle.files.proofs.SingleByte.{found, OfNode}
+use Rattle.files.proofs.PolicySteps.{limits-are, tagged-told}
 use Rattle.text.specs.Words.{word}
 use Rattle.text.specs.Line.{decimal, End, space, byteOf, ended, behind, words}
 use Rattle.text.specs.ReadText.{run, runAt, same, wordAt, past, opened, headAt}
@@ -59,7 +60,8 @@ word-short n = is-word n .short
 -- a run that is known is the node's word
 pub word-found : {s : Sort} (w : List ℕ) (n : Node s) → wordAt s w ≡ tag n → w ≡ word n
 unfolding wordAt
-word-found {s} w n e = same-true w (word n) (found (λ n. same w (word n)) (nodesOf s) n e)
+word-found {s} w n e = subst (OfNode (λ r n. w ≡ word n)) e
+    (found (OfNode (λ r n. w ≡ word n)) (λ n. same w (word n)) (nodesOf s) (λ n. same-true w (word n)) tt)
 
 -- ---- a run, with what follows it
 
@@ -152,7 +154,8 @@ module _ (most : ℕ) (b : List ℕ) where
   head-near s deep e at k = either (ltb at (length b))
       (λ t. let i = ltb-true at (length b) t in rw t
       (tagged-told (Told words most b (Off b (at + 5)) deep e at k) most deep k (wordAt s (runAt b at))
-      (off (omega arith) (omega arith) (omega arith) (omega arith))
+      (λ n q. off (omega arith) (omega arith) (omega arith) (omega arith))
+      (λ q. off (omega arith) (omega arith) (omega arith) (omega arith))
       (λ l f g. off (omega arith) (omega arith) (omega arith) (omega arith))
       (λ n q d f. pass n (word-found (runAt b at) n q) d f (past b (behind (shape n) e) (at + length (runAt b at)))
       (past-told b (behind (shape n) e) (at + length (runAt b at))))))

@@ -7,7 +7,7 @@ use lib.Dec.{eqb, ltb}
 use lib.ListN.{length, getD, take, drop}
 use Rattle.ptacl.specs.Request.{Pair}
 use Rattle.ptacl.specs.Pairs.{packed}
-use Rattle.ptacl.specs.Term.{Sort, target, policy, Policy, Node, tagOf, shape}
+use Rattle.ptacl.specs.Term.{Sort, Policy, Node, tagOf, shape}
 use Rattle.files.specs.Encoding.{bytes}
 use Rattle.files.specs.Memory.{put}
 use Rattle.files.specs.Refusal.{Read, accepted, refused}
@@ -62,14 +62,6 @@ pub record IsTag (tag : ℕ) : Type 0 where
   pub sort : Sort
   pub its : Node sort
   pub is : tag ≡ tagOf its
-
-abbrev pub firstTag : Sort → ℕ
-firstTag target = 0x10
-firstTag policy = 0x20
-
-abbrev pub lastTag : Sort → ℕ
-lastTag target = 0x13
-lastTag policy = 0x25
 
 -- ---- numbers
 

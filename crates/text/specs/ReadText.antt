@@ -8,7 +8,7 @@ use Rattle.ptacl.specs.Request.{Pair}
 use Rattle.ptacl.specs.Term.{Sort, policy, Policy, Node, shape}
 use Rattle.files.specs.Refusal.{Read, accepted, refused}
 use Rattle.files.specs.Prefix.{Head, node, stop, Scan, done, fault, Reader, scan}
-use Rattle.files.specs.ReadPolicy.{Byte, nodesOf, find, limitOf, tagged, finish}
+use Rattle.files.specs.ReadPolicy.{Byte, tag, unknown, nodesOf, find, limitOf, tagged, finish}
 use Rattle.text.specs.Words.{word}
 use Rattle.text.specs.Line.{decimal, End, space, lineFeed, byteOf, behind, words}
 
@@ -31,7 +31,7 @@ same (x ∷ xs) [] = false
 same (x ∷ xs) (y ∷ ys) = eqb x y && same xs ys
 
 unfoldable pub wordAt : (s : Sort) → List ℕ → Byte s
-wordAt s w = find (λ n. same w (word n)) (nodesOf s)
+wordAt s w = find (λ n. same w (word n)) tag (nodesOf s) unknown
 
 -- where a space or the line feed is due: 53 at the end; 51 another byte for a space, 54 for the line feed; else the place behind it
 abbrev pub another : End → ℕ
@@ -46,11 +46,11 @@ abbrev pub opened : {s : Sort} → Node s → Read ℕ → Head s
 opened n (accepted next) = node n next
 opened n (refused number place) = stop number place
 
--- where a word is due: 53, 51, 6, 7, then what is due behind it
+-- where a word is due: 53, 51, also for a word of the other sort, 6, 7, then what is due behind it
 unfoldable pub headAt : ℕ → List ℕ → (s : Sort) → ℕ → End → ℕ → ℕ → Head s
 headAt most b s left e at nodes =
     cond (ltb at (length b))
-    (tagged 51 (limitOf most left nodes) at (λ n. opened n (past b (behind (shape n) e) (at + length (runAt b at)))) (wordAt s (runAt b at)))
+    (tagged 51 51 (limitOf most left nodes) at (λ n. opened n (past b (behind (shape n) e) (at + length (runAt b at)))) (wordAt s (runAt b at)))
     (stop 53 (length b))
 
 -- a run is a number up to 65,535 if the number that its digits stand for is written so

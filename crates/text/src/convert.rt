@@ -75,21 +75,19 @@ fn word_at(text: &[u8], sort: Sort, left: usize, end: End, at: usize, nodes: usi
     }
     let stop = words::run_end(text, at);
     let tag = words::tag_of(sort, &text[at..stop]);
-    match policy::byte_at(sort, tag) {
-        Byte::Unknown => Met::Stop {
+    let Byte::Tag(shape) = policy::byte_at(sort, tag) else {
+        return Met::Stop {
             number: 51,
             place: at,
-        },
-        Byte::Tag(shape) => {
-            let number = policy::limit(left, nodes);
-            if number != 0 {
-                return Met::Stop { number, place: at };
-            }
-            match ends::past(text, ends::behind(shape, end), stop) {
-                Step::On(next) => Met::Node { tag, shape, next },
-                Step::Off { number, place } => Met::Stop { number, place },
-            }
-        }
+        };
+    };
+    let number = policy::limit(left, nodes);
+    if number != 0 {
+        return Met::Stop { number, place: at };
+    }
+    match ends::past(text, ends::behind(shape, end), stop) {
+        Step::On(next) => Met::Node { tag, shape, next },
+        Step::Off { number, place } => Met::Stop { number, place },
     }
 }
 

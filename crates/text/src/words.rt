@@ -2,13 +2,13 @@
 ghost use mathlib.Core.Path.{_≡_};
 ghost use Prim.Native.Nat.{_+_, _≤_};
 ghost use lib.ListN.{length};
-ghost use Rattle.files.specs.Cases.{sortOf};
+ghost use Rattle.files.specs.Cases.{sortOf, firstTag, lastTag};
 ghost use Rattle.files.specs.ReadPolicy.{byteAt};
 ghost use Rattle.files.specs.Memory.{Puts};
 ghost use Rattle.text.specs.Line.{ended};
 ghost use Rattle.text.specs.ReadText.{runAt, wordAt};
 ghost use Rattle.text.specs.ReadText as R;
-ghost use Rattle.text.specs.Cases.{endOf, IsTag, firstTag, lastTag, begins, closes, rowOf};
+ghost use Rattle.text.specs.Cases.{endOf, IsTag, begins, closes, rowOf};
 use crate::ends;
 use crate::ends::End;
 use files::policy::Sort;

@@ -3,8 +3,7 @@ use Prim.Native.Nat.{_+_, _-_}
 use mathlib.Core.Path.{_∙_, sym}
 use native.Mathlib.Omega.{arith}
 use borrow.Author.Needs.{needs}
-use Rattle.files.specs.Cases.{sortOf}
-use Rattle.text.specs.Cases.{lastTag}
+use Rattle.files.specs.Cases.{sortOf, lastTag}
 use Rattle.text.proofs.Table.{Untried, untried, untried-tag, untried-found, untried-more, untried-none, last-small}
 use Rattle.text.proofs.words.tag_of.Statement.{statement}
 use Rattle.text.proofs.words.tag_of.Tie as tie
