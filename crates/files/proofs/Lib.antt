@@ -17,6 +17,7 @@ pub mod PolicySeen
 pub mod PolicyComplete
 pub mod PolicyExact
 pub mod View
+pub mod Slips
 pub mod WorkedPolicy
 pub mod Walk
 pub mod Limits

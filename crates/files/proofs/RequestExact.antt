@@ -1,5 +1,5 @@
 -- A file is read as a request exactly if it is that request's file; what a read request gives the passes behind it.
-use Prim.Native.Nat.{ℕ, _+_, _*_, _-_, _/_, _%_, _≤_, _<_}
+use Prim.Native.Nat.{ℕ, _+_, _*_, _-_, _/_, _%_, _≤_}
 use mathlib.Core.Path.{_≡_, refl, sym, ap, subst, _∙_}
 use mathlib.Core.Logic.{_↔_}
 use mathlib.Core.Bool.{true≢false}
@@ -82,11 +82,8 @@ module _ (first : ℕ) (s : List ℕ) where
 pub request-exact : (first : ℕ) (s : List ℕ) → Bytes s → (q : Request) → (readRequestFrom first s ≡ accepted q) ↔ IsRequest s q
 request-exact first s b q = ((λ e. subst (GivesRequest first s) e (gives first s) b), request-reads first)
 
-pub request-refused-range : (first : ℕ) (s : List ℕ) {n p : ℕ}
-    → 0 < first → first < 251 → readRequestFrom first s ≡ refused n p → (0 < n) × (n < 256) × (p ≤ 65538)
-request-refused-range first s f g e =
-    let r = subst (GivesRequest first s) e (gives first s) in
-    (omega (arith, r .0), omega (arith, r .1), omega (arith, r .2))
+pub request-refused-range : (first : ℕ) (s : List ℕ) {n p : ℕ} → readRequestFrom first s ≡ refused n p → (first ≤ n) × (n ≤ first + 5) × (p ≤ 1027)
+request-refused-range first s e = subst (GivesRequest first s) e (gives first s)
 
 -- what the code's answer for a file tells
 pub request-accepted : (x : Read Request) → requestRead x ≡ RequestRead.Accepted → (q : Request) × (x ≡ accepted q)

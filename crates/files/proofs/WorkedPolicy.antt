@@ -5,12 +5,13 @@ use mathlib.Core.List.{List, [], _∷_, _++_}
 use native.Mathlib.Omega.{arith}
 use lib.ListN.{length, replicate}
 use borrow.Author.Tests.{lt-ltb}
-use Rattle.ptacl.specs.Term.{Policy, deny, allow, not, and}
+use Rattle.ptacl.specs.Term.{target, policy, Policy, deny, allow, not, and}
 use Rattle.files.specs.Encoding.{enc, depth, framed, policyFile}
 use Rattle.files.specs.Refusal.{accepted, refused, unframed}
 use Rattle.files.specs.Prefix.{spell, below, body, scan}
 use Rattle.files.specs.ReadPolicy.{byteAt, headAt, pairAt, finish, readPolicy}
 use Rattle.files.specs.Places.{At}
+use Rattle.files.specs.Due.{aTerm, dueBehind, dueAt}
 use Rattle.files.proofs.Framing.{unframed-whole}
 use Rattle.files.proofs.PolicyComplete.{complete}
 
@@ -41,9 +42,17 @@ pub policy-slipped : readPolicy (1 ∷ 0 ∷ 2 ∷ 0x22 ∷ 0x20 ∷ []) ≡ ref
 unfolding readPolicy unframed scan body below headAt byteAt pairAt
 policy-slipped = refl
 
+pub target-due : dueAt (1 ∷ 0 ∷ 2 ∷ 0x22 ∷ 0x20 ∷ []) 4 ≡ aTerm target ∷ aTerm policy ∷ []
+unfolding dueBehind byteAt
+target-due = refl
+
 pub target-slipped : readPolicy (1 ∷ 0 ∷ 7 ∷ 0x22 ∷ 0x10 ∷ 0 ∷ 1 ∷ 0 ∷ 1 ∷ 0x10 ∷ []) ≡ refused 15 9
 unfolding readPolicy unframed scan body below headAt byteAt pairAt
 target-slipped = refl
+
+pub policy-due : dueAt (1 ∷ 0 ∷ 7 ∷ 0x22 ∷ 0x10 ∷ 0 ∷ 1 ∷ 0 ∷ 1 ∷ 0x10 ∷ []) 9 ≡ aTerm policy ∷ []
+unfolding dueBehind byteAt
+policy-due = refl
 
 pub no-tag : readPolicy (1 ∷ 0 ∷ 2 ∷ 0x22 ∷ 0x14 ∷ []) ≡ refused 5 4
 unfolding readPolicy unframed scan body below headAt byteAt pairAt

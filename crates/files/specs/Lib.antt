@@ -4,6 +4,7 @@ pub mod Refusal
 pub mod ReadPolicy
 pub mod ReadRequest
 pub mod Places
+pub mod Due
 pub mod Memory
 pub mod Cases
 pub mod Bounded

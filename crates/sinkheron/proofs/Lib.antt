@@ -6,7 +6,9 @@ pub mod OutputOne
 pub mod CertifyOne
 pub mod SearchOne
 pub mod Worked
+pub mod Holds
 pub mod Ranges
+pub mod Tells
 pub mod OneOutcome
 pub mod WordOne
 pub mod Handed

@@ -23,7 +23,6 @@ use Rattle.ptacl.proofs.Subset.{mask, normal-subset}
 use Rattle.ptacl.proofs.Exposed.{exposure-index}
 use borrow.Author.Tests.{ltb-true, ltb-false}
 use Rattle.files.specs.Encoding.{Bytes, requestFile, IsPolicy, IsRequest}
-use Rattle.files.specs.Refusal.{Read, refused}
 use Rattle.files.proofs.Memory.{request-length}
 use Rattle.files.proofs.PolicyExact.{refused-place}
 use Rattle.files.proofs.RequestExact.{request-refused-range}
@@ -32,7 +31,7 @@ use Rattle.text.proofs.Near.{line-short, file-short, text-refused}
 use Rattle.search.specs.Found.{twoFiles, exposureFiles}
 use Rattle.search.proofs.Chosen.{subset-most, subset-less}
 use Rattle.sinkheron.specs.Answer.{Answer, refusal, success, Promise}
-use Rattle.sinkheron.specs.Ways.{OfPolicy, OfText, OfRequest, Reads, unread, holding, The, the, RefusedIf, stops, passes, Gives, gives}
+use Rattle.sinkheron.specs.Ways.{OfPolicy, OfText, OfRequest, RefusedIf}
 use Rattle.sinkheron.specs.Decide as D
 use Rattle.sinkheron.specs.ListPairs as L
 use Rattle.sinkheron.specs.Output.{Small}
@@ -41,17 +40,17 @@ use Rattle.sinkheron.specs.ReadText as T
 use Rattle.sinkheron.specs.WriteText as W
 use Rattle.sinkheron.specs.Certify as C
 use Rattle.sinkheron.specs.Search as S
+use Rattle.sinkheron.proofs.Holds.{Holds, AllHold, reads-hold, the-holds, refused-if-holds, gives-holds}
 
 -- a refusal's number and place; else values as they can be
 abbrev pub Refused : ℕ → ℕ → Type 0
 Refused n at = (0 < n) × (n < 256) × (at ≤ 65538)
 
 abbrev pub Range : {A : Type 0} → (A → Type 0) → Answer A → Type 0
-Range can (refusal n at) = Refused n at
-Range can (success v) = can v
+Range can x = Holds Refused can x
 
 abbrev pub Ranged : {A M : Type 0} → (A → Type 0) → Promise A M → Type 0
-Ranged {A} {M} can permits = (x : Answer A) (m : M) → permits x m → Range can x
+Ranged can permits = AllHold Refused can permits
 
 abbrev fair : ℕ → ℕ → Bool
 fair n at = ltb 0 n && (ltb n 256 && ltb at 65539)
@@ -62,42 +61,31 @@ fair-refused n at h =
     (ltb-true 0 n (and-left _ h), ltb-true n 256 (and-left _ k), omega (arith, ltb-true at 65539 (and-right (ltb n 256) k)))
 
 module _ {A M : Type 0} {can : A → Type 0} where
-  reads-ranged : {F : Type 0} {read : Read F} {IsFile : F → Type 0} {before : M} {follows : F → Promise A M}
-      → ((n at : ℕ) → read ≡ refused n at → Refused n at) → ((f : F) → IsFile f → Ranged can (follows f)) → Ranged can (Reads read IsFile before follows)
-  reads-ranged r o _ _ (unread {n} {at} e) = r n at e
-  reads-ranged r o x m (holding {f} h d) = o f h x m d
-
   policy-ranged : {policy : List ℕ} {before : M} {follows : Policy → Promise A M}
       → Bytes policy → ((p : Policy) → IsPolicy policy p → Ranged can (follows p)) → Ranged can (OfPolicy policy before follows)
-  policy-ranged b o = reads-ranged (λ n at e. refused-place e b) o
+  policy-ranged b o = reads-hold (λ n at e. refused-place e b) o
 
   text-ranged : {text : List ℕ} {before : M} {follows : Policy → Promise A M}
       → ((p : Policy) → IsText text p → Ranged can (follows p)) → Ranged can (OfText text before follows)
-  text-ranged {text} o = reads-ranged (λ n at e. let r = text-refused text e in (r .0, r .1, omega (arith, r .2))) o
+  text-ranged {text} o = reads-hold (λ n at e. let r = text-refused text e in (r .0, r .1, omega (arith, r .2))) o
 
   request-ranged : {request : List ℕ} {before : M} {follows : Request → Promise A M}
       → ((q : Request) → IsRequest request q → Ranged can (follows q)) → Ranged can (OfRequest request before follows)
-  request-ranged {request} o = reads-ranged (λ n at e. request-refused-range 21 request (omega arith) (omega arith) e) o
-
-  the-ranged : {T : Type 0} {Is : T → Type 0} {follows : T → Promise A M} → ((t : T) → Is t → Ranged can (follows t)) → Ranged can (The Is follows)
-  the-ranged o x m (the {t} h d) = o t h x m d
+  request-ranged {request} o =
+      reads-hold (λ n at e. let r = request-refused-range 21 request e in (omega (arith, r .0), omega (arith, r .1), omega (arith, r .2))) o
 
   refused-if-ranged : {test : Bool} {n at : ℕ} {before : M} {follows : Promise A M}
       → fair n at ≡ true → (test ≡ false → Ranged can follows) → Ranged can (RefusedIf test n at before follows)
-  refused-if-ranged {n = n} {at = at} h o _ _ (stops e) = fair-refused n at h
-  refused-if-ranged h o x m (passes e d) = o e x m d
-
-gives-ranged : {A M : Type 0} {v : A} {after : M} (can : A → Type 0) → can v → Ranged can (Gives v after)
-gives-ranged can h _ _ gives = h
+  refused-if-ranged {n = n} {at = at} h o = refused-if-holds (fair-refused n at h) o
 
 code-most : (s : Values) → code s ≤ 7
 code-most s = let e : code s % 8 ≡ code s = of-code (λ k. k) (λ s. s) refl (code s) ∙ ap code (code-set s) in omega arith
 
 pub decide-ranged : {s q : List ℕ} → Bytes s → Ranged (λ k. k ≤ 7) (D.Decides s q)
-decide-ranged b = policy-ranged b (λ p f. request-ranged (λ q g. refused-if-ranged refl (λ e. gives-ranged (λ k. k ≤ 7) (code-most (eval p q)))))
+decide-ranged b = policy-ranged b (λ p f. request-ranged (λ q g. refused-if-ranged refl (λ e. gives-holds Refused (λ k. k ≤ 7) (code-most (eval p q)))))
 
 pub list-pairs-ranged : {s before : List ℕ} → Bytes s → Ranged (λ k. k ≤ 254) (L.Lists s before)
-list-pairs-ranged b = policy-ranged b (λ p f. the-ranged (λ ps h. refused-if-ranged refl (λ e. gives-ranged (λ k. k ≤ 254) (omega (arith, length-map ps packed, pairs-254 p (f .fits .few) h)))))
+list-pairs-ranged b = policy-ranged b (λ p f. the-holds (λ ps h. refused-if-ranged refl (λ e. gives-holds Refused (λ k. k ≤ 254) (omega (arith, length-map ps packed, pairs-254 p (f .fits .few) h)))))
 
 rule-most : {k : ℕ} {p : Policy} → Certified k p → k ≤ 6
 rule-most (cert1 h) = omega arith
@@ -112,7 +100,7 @@ number-most (none n) = omega arith
 number-most (least c l) = rule-most c
 
 pub certify-ranged : {s : List ℕ} → Bytes s → Ranged (λ k. k ≤ 6) (C.Certifies s)
-certify-ranged b = policy-ranged b (λ p f. the-ranged (λ k c. gives-ranged (λ k. k ≤ 6) (number-most c)))
+certify-ranged b = policy-ranged b (λ p f. the-holds (λ k c. gives-holds Refused (λ k. k ≤ 6) (number-most c)))
 
 -- a normal form is within the policy's pairs
 normal-254 : (p : Policy) → nodes p ≤ 255 → {q r : Request} → IsNormal (atoms p) q r → length r ≤ 254
@@ -123,15 +111,15 @@ normal-254 p few {q} h =
 
 pub normal-form-ranged : {s q before : List ℕ} → Bytes s → Ranged (λ k. k ≤ 1019) (N.Normalises s q before)
 normal-form-ranged b =
-    policy-ranged b (λ p f. request-ranged (λ q g. the-ranged (λ r h. refused-if-ranged refl (λ e.
-    gives-ranged (λ k. k ≤ 1019) (omega (arith, request-length r, normal-254 p (f .fits .few) h))))))
+    policy-ranged b (λ p f. request-ranged (λ q g. the-holds (λ r h. refused-if-ranged refl (λ e.
+    gives-holds Refused (λ k. k ≤ 1019) (omega (arith, request-length r, normal-254 p (f .fits .few) h))))))
 
 -- a policy file, a line
 pub read-text-ranged : {text before : List ℕ} → Ranged (λ k. k ≤ 4593) (T.ReadsText text before)
-read-text-ranged = text-ranged (λ p f. refused-if-ranged refl (λ e. gives-ranged (λ k. k ≤ 4593) (file-short (f .fits))))
+read-text-ranged = text-ranged (λ p f. refused-if-ranged refl (λ e. gives-holds Refused (λ k. k ≤ 4593) (file-short (f .fits))))
 
 pub write-text-ranged : {s before : List ℕ} → Bytes s → Ranged (λ k. k ≤ 4590) (W.WritesText s before)
-write-text-ranged b = policy-ranged b (λ p f. refused-if-ranged refl (λ e. gives-ranged (λ k. k ≤ 4590) (line-short (f .fits))))
+write-text-ranged b = policy-ranged b (λ p f. refused-if-ranged refl (λ e. gives-holds Refused (λ k. k ≤ 4590) (line-short (f .fits))))
 
 -- whatever was written, its length has room in its bits
 pub output-small : (most : ℕ) → most ≤ 65535 → (x : Answer ℕ) → Range (λ k. k ≤ most) x → Small x
@@ -170,4 +158,4 @@ judges-ranged {ps = ps} l _ _ (S.is-exposed {m} {i} h) =
 
 pub search-ranged : {s before : List ℕ} → Bytes s → Ranged Can (S.Searches s before)
 search-ranged b =
-    policy-ranged b (λ p f. the-ranged (λ ps h. refused-if-ranged refl (λ e. refused-if-ranged refl (λ d. judges-ranged (ltb-false 16 (length ps) e)))))
+    policy-ranged b (λ p f. the-holds (λ ps h. refused-if-ranged refl (λ e. refused-if-ranged refl (λ d. judges-ranged (ltb-false 16 (length ps) e)))))

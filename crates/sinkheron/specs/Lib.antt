@@ -10,3 +10,4 @@ pub mod WriteText
 pub mod Certify
 pub mod Search
 pub mod Handed
+pub mod Told
