@@ -15,7 +15,9 @@
  *  number  when                                              what an operator does
  *  1, 2, 3 policy file: shorter than 3 bytes; version byte   the policy file is cut or not one: fetch it again
  *          is not 1; stated length is not the file's
- *  4, 5    policy body ends too early; byte is no tag here   the policy file is damaged: fetch it again
+ *  4, 5    policy body ends too early; byte is no tag        the policy file is damaged: fetch it again
+ *  15      a policy where a target is due, or a target       the policy was put together wrongly: have its author mend
+ *          where a policy is due                             it at the place
  *  6, 7    deeper than 32; more than 255 nodes               the policy is too large for a station: split it
  *  8       bytes after the finished policy                   the policy file is damaged: fetch it again
  *  21 - 24 request file: shorter than 3 bytes; version       the station's message is damaged: send it again
@@ -44,22 +46,22 @@ extern "C" {
 #endif
 
 /* What the policy comes to for the request: bits 8 to 10 have the set's code, 1 for allow, plus 2 for deny, plus 4 for undefined.
- * Only allow alone, code 1, releases a batch. Numbers 1 to 8, 21 to 26, 14. */
+ * Only allow alone, code 1, releases a batch. Numbers 1 to 8, 15, 21 to 26, 14. */
 uint64_t sinkheron_decide(const uint8_t *policy, size_t policy_len, const uint8_t *request, size_t request_len);
 
 /* Whether leaving a fact out of a request can open a release, for a policy of at most 16 pairs: bit 8 has the verdict (0 resistant,
  * 1 exposed), bits 16 to 23 the number of pairs, bits 24 to 31 the bytes written, bits 32 to 47 m, bits 48 to 63 i. Exposed: the
  * subset m of the policy's pairs is not released, without pair i it is; the space begins with the smaller request's file and
  * straight behind it the larger's, and is unaltered past them. Resistant: m, i and the bytes written are 0 and the space is
- * unaltered. Numbers 1 to 8, 12, 13 (below 130 bytes). */
+ * unaltered. Numbers 1 to 8, 15, 12, 13 (below 130 bytes). */
 uint64_t sinkheron_search(const uint8_t *policy, size_t policy_len, uint8_t *space, size_t space_len);
 
 /* The policy's pairs, ascending, each name * 65536 + value, at the front of `pairs`; entries past them are unaltered. Bits 16 to 23
- * have the number of pairs. Numbers 1 to 8, 13 (fewer entries than pairs; 254 always suffice). */
+ * have the number of pairs. Numbers 1 to 8, 15, 13 (fewer entries than pairs; 254 always suffice). */
 uint64_t sinkheron_list_pairs(const uint8_t *policy, size_t policy_len, uint32_t *pairs, size_t pairs_len);
 
 /* The request's normal form as a request file at the front of the space; bytes past it are unaltered. Bits 32 to 47 have the file's
- * length. Numbers 1 to 8, 21 to 26, 13 (shorter than the file; 1019 bytes always suffice). */
+ * length. Numbers 1 to 8, 15, 21 to 26, 13 (shorter than the file; 1019 bytes always suffice). */
 uint64_t sinkheron_normal_form(const uint8_t *policy, size_t policy_len, const uint8_t *request, size_t request_len, uint8_t *space,
                                size_t space_len);
 
@@ -70,10 +72,10 @@ uint64_t sinkheron_normal_form(const uint8_t *policy, size_t policy_len, const u
 uint64_t sinkheron_read_text(const uint8_t *text, size_t text_len, uint8_t *space, size_t space_len);
 
 /* The line of the file's policy at the front of the space, without a zero byte behind it; bytes past it are unaltered. Bits 32 to 47
- * have the line's length. Numbers 1 to 8, 13 (shorter than the line; 2927 bytes always suffice). */
+ * have the line's length. Numbers 1 to 8, 15, 13 (shorter than the line; 2927 bytes always suffice). */
 uint64_t sinkheron_write_text(const uint8_t *policy, size_t policy_len, uint8_t *space, size_t space_len);
 
-/* The smallest number, 1 to 6, of a structural rule that shows the policy resistant, or 0: bits 12 to 15. Numbers 1 to 8. */
+/* The smallest number, 1 to 6, of a structural rule that shows the policy resistant, or 0: bits 12 to 15. Numbers 1 to 8, 15. */
 uint64_t sinkheron_certify(const uint8_t *policy, size_t policy_len);
 
 /* The fields of a word. */
