@@ -227,7 +227,7 @@ static void explain(const struct block *text, uint64_t word)
     unsigned number = sinkheron_number(word);
     size_t place = sinkheron_place(word);
     if (number == 13) { /* of the space, not of the text; what is lent here suffices, but a caret would mislead */
-        print_refusal(stderr, "not read", word);
+        print_refusal(stderr, "not read", word, text);
         return;
     }
     fprintf(stderr, "not read: refused %u at %lu\n", number, (unsigned long)place);
@@ -267,7 +267,7 @@ static int write_text(const char *policy_name)
         return STATUS_FILE;
     uint64_t word = sinkheron_write_text(policy.bytes, policy.length, line, sizeof line);
     if (sinkheron_number(word) != 0) {
-        print_refusal(stderr, "not written", word);
+        print_refusal(stderr, "not written", word, &policy);
         return STATUS_REFUSED;
     }
     return print(line, sinkheron_file_length(word)) ? 0 : STATUS_FILE;

@@ -52,13 +52,14 @@ static inline const char *refusal(unsigned number)
     case 2: return "the policy file's version byte is not 1";
     case 3: return "the policy file's stated length is not its own";
     case 4: return "the policy ends where a node or an atom's numbers are due";
-    case 5: return "a byte of the policy is no tag of the sort due there";
+    case 5: return "a byte of the policy is no tag";
     case 6: return "the policy is deeper than 32";
     case 7: return "the policy has more than 255 nodes";
     case 8: return "bytes follow the finished policy";
     case 12: return "the policy has more than 16 pairs";
     case 13: return "the lent space is too small";
     case 14: return "the decision set came out empty";
+    case 15: return "a node of the other sort stands here";
     case 21: return "the request file is shorter than 3 bytes";
     case 22: return "the request file's version byte is not 1";
     case 23: return "the request file's stated length is not its own";
@@ -69,10 +70,24 @@ static inline const char *refusal(unsigned number)
     }
 }
 
-static inline void print_refusal(FILE *to, const char *what, uint64_t word)
+/* A refusal in words, of 15 also which sort stands there: whoever built the file by hand looks for that. The byte at the place tells, and
+ * is read only where the place is in the file. */
+static inline const char *reason(uint64_t word, const struct block *file)
 {
-    unsigned number = sinkheron_number(word);
-    fprintf(to, "%s: refused %u at %lu: %s\n", what, number, (unsigned long)sinkheron_place(word), refusal(number));
+    size_t place = sinkheron_place(word);
+    unsigned number = sinkheron_number(word), tag = number == 15 && place < file->length ? file->bytes[place] : 0;
+    if (tag >= 0x10 && tag <= 0x13)
+        return "a target stands where a policy is due";
+    if (tag >= 0x20 && tag <= 0x25)
+        return "a policy stands where a target is due";
+    return refusal(number);
+}
+
+/* `file` is the policy or text that was read. Only 15 is told by it, and that is never of a request. */
+static inline void print_refusal(FILE *to, const char *what, uint64_t word, const struct block *file)
+{
+    unsigned long place = sinkheron_place(word);
+    fprintf(to, "%s: refused %u at %lu: %s\n", what, sinkheron_number(word), place, reason(word, file));
 }
 
 #endif

@@ -35,7 +35,7 @@ static int decide(const struct block *policy, const struct block *request)
         return 0;
     }
     if (sinkheron_number(word) != 0)
-        print_refusal(stdout, "hold", word);
+        print_refusal(stdout, "hold", word, policy);
     else
         printf("hold: %s\n", hold_reason(sinkheron_set(word)));
     return STATUS_HOLD;
@@ -74,7 +74,7 @@ static int check(const struct block *policy)
     uint8_t space[130];
     uint64_t word = sinkheron_search(policy->bytes, policy->length, space, sizeof space);
     if (sinkheron_number(word) != 0) {
-        print_refusal(stdout, "not checked", word);
+        print_refusal(stdout, "not checked", word, policy);
         return STATUS_HOLD;
     }
     if (sinkheron_verdict(word) == 0) {
