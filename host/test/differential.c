@@ -87,6 +87,14 @@ static void nots(struct bytes *b, unsigned count)
         put(b, 0x23 + below(2));
 }
 
+/* About the limit of nodes, which may be met in a policy of every kind. */
+static void broad_and_more(struct bytes *b)
+{
+    put(b, 0x25);
+    broad(b, 118 + below(14));
+    policy(b, 1 + below(4));
+}
+
 /* About both limits at once: behind 255 nodes the next may be at depth 33. */
 static void broad_and_deep(struct bytes *b)
 {
@@ -109,7 +117,7 @@ static void make_policy(struct bytes *b)
     if (below(8) == 0)
         nots(b, below(40));
     if (below(40) == 0)
-        broad(b, 120 + below(12));
+        broad_and_more(b);
     else if (below(400) == 0)
         broad_and_deep(b);
     else
@@ -181,6 +189,33 @@ static void damage(struct bytes *b)
         break;
     default: break;
     }
+}
+
+/* The place of a node's tag in a policy file that is not damaged yet: of any, or of the 33rd or 256th, where the limits are, or the last. */
+static size_t some_tag(const struct bytes *p)
+{
+    unsigned body = (unsigned)p->length - 3, kind = below(8);
+    size_t last = kind < 2 ? body + 2 : 3 + below(body), at = 3, next = 3;
+    for (unsigned nodes = kind == 0 ? 33 : kind == 1 ? 256 : body; nodes > 0 && next <= last; nodes--) {
+        at = next;
+        next += p->at[at] == 0x10 ? 5 : 1;
+    }
+    return at;
+}
+
+/* Of policies one damage more: at a tag's place a tag of the other sort, or a byte that is just none. */
+static void damage_policy(struct bytes *p)
+{
+    static const uint8_t no_tags[] = {0x00, 0x0f, 0x14, 0x1f, 0x26, 0xff};
+    if (below(4) != 0) {
+        damage(p);
+        return;
+    }
+    uint8_t *tag = &p->at[some_tag(p)];
+    if (below(3) == 0)
+        *tag = no_tags[below(sizeof no_tags)];
+    else
+        *tag = (uint8_t)(*tag < 0x20 ? 0x20 + below(6) : 0x10 + below(4));
 }
 
 /* ---- texts */
@@ -319,10 +354,13 @@ static const char *operation;
 /* What was met: a test that meets little says little. */
 enum { NUMBERS = 55 };
 static unsigned long numbers[NUMBERS], read_numbers[NUMBERS], written_numbers[NUMBERS], sets[8], rules[8], verdicts[2], searched[17];
+static unsigned long misplaced[2]; /* of refusal 15: policies where a target is due, targets where a policy is */
 
-static void met(const struct answer *decided, const struct answer *certified, const struct answer *search)
+static void met(const uint8_t *policy, const struct answer *decided, const struct answer *certified, const struct answer *search)
 {
     numbers[decided->number % NUMBERS]++;
+    if (decided->number == 15)
+        misplaced[policy[decided->place] < 0x20]++;
     if (search->number == 12 || search->number == 13)
         numbers[search->number]++;
     if (decided->number == 0)
@@ -391,7 +429,7 @@ static int trial(const struct bytes *p, const struct bytes *q, const struct guar
                 packed(a, (uint64_t)a.verdict << 8 | (uint64_t)a.pairs << 16 | (uint64_t)a.bytes << 24 | (uint64_t)a.subset << 32 | (uint64_t)a.hides << 48),
                 space, model_space, space_len))
         return 1;
-    met(&decided, &certified, &a);
+    met(policy, &decided, &certified, &a);
 
     operation = "normal_form";
     space = lend(&memory[2], space_len, at_end);
@@ -453,9 +491,9 @@ static void show(const char *what, const struct bytes *b)
 }
 
 /* The numbers of the documents that an input can get; nothing gets 14. */
-static const uint8_t of_files[] = {0, 1, 2, 3, 4, 5, 6, 7, 8, 12, 13, 21, 22, 23, 24, 25, 26};
+static const uint8_t of_files[] = {0, 1, 2, 3, 4, 5, 15, 6, 7, 8, 12, 13, 21, 22, 23, 24, 25, 26};
 static const uint8_t of_texts[] = {0, 6, 7, 13, 51, 52, 53, 54};
-static const uint8_t of_lines[] = {0, 1, 2, 3, 4, 5, 6, 7, 8, 13};
+static const uint8_t of_lines[] = {0, 1, 2, 3, 4, 5, 15, 6, 7, 8, 13};
 
 static int all_met(const unsigned long *counts, const uint8_t *wanted, size_t length)
 {
@@ -468,7 +506,7 @@ static int all_met(const unsigned long *counts, const uint8_t *wanted, size_t le
 static int every_number_met(void)
 {
     return all_met(numbers, of_files, sizeof of_files) && all_met(read_numbers, of_texts, sizeof of_texts) &&
-           all_met(written_numbers, of_lines, sizeof of_lines);
+           all_met(written_numbers, of_lines, sizeof of_lines) && misplaced[0] > 0 && misplaced[1] > 0;
 }
 
 struct inputs {
@@ -486,7 +524,7 @@ static int one_trial(struct inputs *in, const struct guarded *memory, int at_end
     make_text(&in->text, &in->policy);
     size_t file_room = room_for(in->policy.length), line_room = room_for(in->text.length);
     if (below(3) == 0)
-        damage(&in->policy);
+        damage_policy(&in->policy);
     if (below(3) == 0)
         damage(&in->request);
     for (unsigned k = below(3); k > 0; k--)
@@ -500,6 +538,7 @@ static void print_met(void)
     print_counts("numbers met", numbers, NUMBERS);
     print_counts("numbers met in reading texts", read_numbers, NUMBERS);
     print_counts("numbers met in writing texts", written_numbers, NUMBERS);
+    printf("misplaced: policies in %lu, targets in %lu\n", misplaced[0], misplaced[1]);
     print_counts("sets met", sets, 8);
     print_counts("certificates met", rules, 8);
     print_counts("verdicts met", verdicts, 2);

@@ -60,9 +60,9 @@ static int parts_of(unsigned tag)
     return tag == 0x13 || tag == 0x22 || tag == 0x25 ? 2 : 1;
 }
 
-static int is_due(const struct slot *slot, unsigned tag)
+static int is_tag(int target, unsigned byte)
 {
-    return slot->target ? tag >= 0x10 && tag <= 0x13 : tag >= 0x20 && tag <= 0x25;
+    return target ? byte >= 0x10 && byte <= 0x13 : byte >= 0x20 && byte <= 0x25;
 }
 
 /* Gives the slot due next a node of that tag, and its parts slots of their own; else the refusal's number. */
@@ -70,8 +70,8 @@ static unsigned settle(struct walk *w, unsigned tag)
 {
     struct slot slot = w->due[w->waiting - 1];
     struct node *node = w->policy->node;
-    if (!is_due(&slot, tag))
-        return 5;
+    if (!is_tag(slot.target, tag))
+        return is_tag(!slot.target, tag) ? 15 : 5;
     if (slot.depth > 32)
         return 6;
     if (w->policy->count >= 255)
@@ -233,8 +233,10 @@ static struct answer pass_node(struct reader *r, struct walk *w)
         return refuse(53, r->len);
     size_t length = run_at(r);
     unsigned tag = tag_of_run(r->text + r->at, length), number = settle(w, tag);
+    if (number == 5 || number == 15) /* a text has one number for both */
+        return refuse(51, r->at);
     if (number != 0)
-        return refuse(number == 5 ? 51 : number, r->at);
+        return refuse(number, r->at);
     r->at += length;
     struct answer a = pass_gap(r, w->waiting > 0 || tag == 0x10);
     struct node *node = &w->policy->node[w->policy->count - 1];
