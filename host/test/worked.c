@@ -1,4 +1,4 @@
-/* Document 01's worked policies and edges and document 02's written form through the C face, all operations. */
+/* Document 01's worked policies and edges, document 02's written form and its telling of tags through the C face, all operations. */
 #include "../sinkheron.h"
 
 #include <stdio.h>
@@ -192,7 +192,7 @@ static void tree(struct file *f, unsigned leaves)
     if (leaves > 1) {
         f->bytes[f->length++] = 0x25;
         tree(f, leaves / 2);
-        tree(f, leaves / 2);
+        tree(f, leaves - leaves / 2);
     } else {
         f->bytes[f->length++] = 0x21;
     }
@@ -215,9 +215,184 @@ static void most_nodes(void)
     expect("a 256th node", sinkheron_certify(p.bytes, 259), refused(7, 258));
 }
 
-/* ---- the written form */
+/* ---- policy files that are not read */
 
-enum { KEPT = 0xee, LONGEST_FILE = 766, LONGEST_LINE = 2927 };
+enum { KEPT = 0xee, LONGEST_FILE = 766, LONGEST_LINE = 2927, MOST_PAIRS = 254 };
+
+static int is_kept(const uint8_t *from, const uint8_t *end)
+{
+    while (from < end && *from == KEPT)
+        from++;
+    return from == end;
+}
+
+/* Lent to an operation beside the policy file: a request, memory for bytes and memory for pairs. */
+struct lent {
+    size_t request_len, space_len, pairs_len;
+    uint8_t request[3], space[LONGEST_LINE];
+    uint32_t pairs[MOST_PAIRS];
+};
+
+static const struct lent enough = {3, LONGEST_LINE, MOST_PAIRS, {1, 0, 0}, {0}, {0}}, nothing;
+
+/* The words of the six operations that read a policy file. */
+enum { READERS = 6 };
+
+static void read_by_all(const struct file *f, size_t length, struct lent *l, uint64_t *word)
+{
+    word[0] = sinkheron_decide(f->bytes, length, l->request, l->request_len);
+    word[1] = sinkheron_list_pairs(f->bytes, length, l->pairs, l->pairs_len);
+    word[2] = sinkheron_normal_form(f->bytes, length, l->request, l->request_len, l->space, l->space_len);
+    word[3] = sinkheron_certify(f->bytes, length);
+    word[4] = sinkheron_search(f->bytes, length, l->space, l->space_len);
+    word[5] = sinkheron_write_text(f->bytes, length, l->space, l->space_len);
+}
+
+static void expect_read(const char *what, const struct file *f)
+{
+    struct lent lent = enough;
+    uint64_t word[READERS];
+    read_by_all(f, f->length, &lent, word);
+    for (int k = 0; k < READERS; k++)
+        expect(what, sinkheron_number(word[k]), 0);
+}
+
+/* Each of them refuses the file so, also where the request and the memory are at fault, and alters nothing. */
+static void expect_unread(const char *what, const struct file *f, size_t length, uint64_t wanted)
+{
+    const struct lent *each[] = {&enough, &nothing};
+    for (int e = 0; e < 2; e++) {
+        struct lent lent = *each[e];
+        uint64_t word[READERS];
+        memset(lent.space, KEPT, sizeof lent.space);
+        memset(lent.pairs, KEPT, sizeof lent.pairs);
+        read_by_all(f, length, &lent, word);
+        for (int k = 0; k < READERS; k++)
+            expect(what, word[k], wanted);
+        expect(what, (uint64_t)is_kept(lent.space, lent.space + sizeof lent.space), 1);
+        expect(what, (uint64_t)is_kept((const uint8_t *)lent.pairs, (const uint8_t *)(lent.pairs + MOST_PAIRS)), 1);
+    }
+}
+
+static void unread_files(void)
+{
+    static struct file f;
+    file(&f, A);
+    expect_unread("two bytes of A", &f, 2, refused(1, 2));
+    expect_unread("A cut", &f, 12, refused(3, 1));
+    f.bytes[0] = 2;
+    expect_unread("A of version 2", &f, f.length, refused(2, 0));
+    const struct { const char *body; unsigned number; uint64_t place; } row[] = {
+        {"23", 4, 4}, {"22", 4, 4}, {"22 10 0001 00", 4, 8}, {"21 21", 8, 4}, {"21 10", 8, 4}, {"21 26", 8, 4},
+        {"10", 15, 3}, {"10 0001 00", 15, 3}, {"22 20", 15, 4}, {"26", 5, 3}, {"22 26", 5, 4},
+        {"25 26 10", 5, 4}, {"25 10 26", 15, 4}, {"22 26 10", 5, 4}, {"22 20 26", 15, 4},
+        {"22 10 2021 1011 26", 5, 9}, {"22 10 2021 1011 13", 15, 9},
+    };
+    for (size_t k = 0; k < sizeof row / sizeof *row; k++) {
+        file(&f, row[k].body);
+        expect_unread(row[k].body, &f, f.length, refused(row[k].number, row[k].place));
+    }
+}
+
+/* A policy's refusal comes before each refusal of the request. */
+static void policy_before_request(void)
+{
+    static struct file p;
+    static const struct { unsigned number; size_t length; uint8_t bytes[11]; } row[] = {
+        {21, 2, {1, 0}}, {22, 3, {2, 0, 0}}, {23, 3, {1, 0, 1}}, {24, 4, {1, 0, 1, 0}}, {26, 11, {1, 0, 8, 0, 1, 0, 1, 0, 1, 0, 1}},
+    };
+    for (size_t k = 0; k < sizeof row / sizeof *row; k++) {
+        file(&p, "20");
+        expect("a request at fault", sinkheron_number(sinkheron_decide(p.bytes, p.length, row[k].bytes, row[k].length)), row[k].number);
+        file(&p, "22 20 20");
+        expect("15 before it", sinkheron_decide(p.bytes, p.length, row[k].bytes, row[k].length), refused(15, 4));
+        expect("15 before it", sinkheron_normal_form(p.bytes, p.length, row[k].bytes, row[k].length, NULL, 0), refused(15, 4));
+    }
+}
+
+/* Where a node is due: its sort, and what stands before it and behind it. */
+enum { POLICY, TARGET, NEITHER };
+#define ATOM " 10 0001 0001 "
+static const struct slot { int sort; const char *before, *behind; } slots[] = {
+    {POLICY, "", ""}, {POLICY, "23", ""}, {POLICY, "24", ""}, {POLICY, "25", "20"}, {POLICY, "25 20", ""}, {POLICY, "22" ATOM, ""},
+    {TARGET, "22", "20"}, {TARGET, "22 11", "20"}, {TARGET, "22 12", "20"}, {TARGET, "22 13", ATOM "20"}, {TARGET, "22 13" ATOM, "20"},
+};
+
+/* The tags, each with what makes a whole node of it, and bytes beside them that are none. */
+static const struct met { int sort; const char *byte, *parts; } bytes_met[] = {
+    {TARGET, "10", "0001 0001"}, {TARGET, "11", ATOM}, {TARGET, "12", ATOM}, {TARGET, "13", ATOM ATOM}, {POLICY, "20", ""}, {POLICY, "21", ""},
+    {POLICY, "22", ATOM "20"}, {POLICY, "23", "20"}, {POLICY, "24", "20"}, {POLICY, "25", "20 20"},
+    {NEITHER, "00", ""}, {NEITHER, "0f", ""}, {NEITHER, "14", ""}, {NEITHER, "1f", ""}, {NEITHER, "26", ""}, {NEITHER, "ff", ""},
+};
+
+/* A node of the sort due is read; one of the other sort is 15 at its tag, and a byte that is no tag 5 there. */
+static void expect_told(const struct slot *slot, const struct met *met)
+{
+    static struct file f;
+    char body[80];
+    file(&f, slot->before);
+    uint64_t refusal = refused(met->sort == NEITHER ? 5 : 15, f.length);
+    sprintf(body, "%s %s %s %s", slot->before, met->byte, met->parts, slot->behind);
+    file(&f, body);
+    if (met->sort == slot->sort)
+        expect_read(body, &f);
+    else
+        expect_unread(body, &f, f.length, refusal);
+}
+
+static void told_tags(void)
+{
+    for (size_t k = 0; k < sizeof slots / sizeof *slots; k++)
+        for (size_t m = 0; m < sizeof bytes_met / sizeof *bytes_met; m++)
+            expect_told(&slots[k], &bytes_met[m]);
+}
+
+/* At depth 33 a node of the sort due is 6, and 15 and 5 are as elsewhere. */
+static void deep_tags(void)
+{
+    static struct file f;
+    const struct { size_t nots; const char *end; unsigned number; } row[] = {
+        {32, "20", 6}, {32, "10 0001 0001", 15}, {32, "13", 15}, {32, "14", 5}, {32, "26", 5},
+        {31, "22 10 0001 0001 20", 6}, {31, "22 20", 15}, {31, "22 25", 15}, {31, "22 14", 5}, {31, "22 26", 5},
+    };
+    for (size_t k = 0; k < sizeof row / sizeof *row; k++) {
+        repeated(&f, 0x23, row[k].nots, row[k].end);
+        expect_unread(row[k].end, &f, f.length, refused(row[k].number, 35));
+    }
+}
+
+/* An and, a tree on its left, nots on its right and one node more are 255 nodes; then a byte. */
+static void fill(struct file *f, unsigned nots, uint8_t last, uint8_t byte)
+{
+    f->length = 3;
+    f->bytes[f->length++] = 0x25;
+    tree(f, (254 - nots) / 2);
+    memset(f->bytes + f->length, 0x23, nots);
+    f->length += nots;
+    f->bytes[f->length++] = last;
+    f->bytes[f->length++] = byte;
+    memcpy(f->bytes, "\1\1\0", 3);
+}
+
+/* Behind 255 nodes one of the sort due is 7, at depth 33 even there 6. */
+static void tags_behind_255_nodes(void)
+{
+    static struct file f;
+    enum { LIMIT = 0 };
+    static const struct { unsigned nots, number; } limit[] = {{28, 7}, {30, 6}};
+    static const struct { uint8_t last, byte; unsigned number; } row[] = {
+        {0x23, 0x20, LIMIT}, {0x23, 0x10, 15}, {0x23, 0x13, 15}, {0x23, 0x14, 5}, {0x23, 0x26, 5},
+        {0x22, 0x10, LIMIT}, {0x22, 0x20, 15}, {0x22, 0x25, 15}, {0x22, 0x14, 5}, {0x22, 0x26, 5},
+    };
+    for (size_t n = 0; n < sizeof limit / sizeof *limit; n++)
+        for (size_t k = 0; k < sizeof row / sizeof *row; k++) {
+            fill(&f, limit[n].nots, row[k].last, row[k].byte);
+            unsigned number = row[k].number == LIMIT ? limit[n].number : row[k].number;
+            expect_unread("a byte behind 255 nodes", &f, f.length, refused(number, 258));
+        }
+}
+
+/* ---- the written form */
 
 struct text {
     size_t length;
@@ -244,13 +419,6 @@ static void text(struct text *t, const char *bytes)
 }
 
 static uint64_t length_word(uint64_t length) { return length << 32; }
-
-static int is_kept(const uint8_t *from, const uint8_t *end)
-{
-    while (from < end && *from == KEPT)
-        from++;
-    return from == end;
-}
 
 /* The text is refused, and no byte of the space is altered. */
 static void expect_refused(const char *what, const struct text *t, unsigned number, uint64_t place)
@@ -511,38 +679,6 @@ static void longest(void)
     expect_both_forms("the longest policy", &t, &f);
 }
 
-static void expect_unwritten(const char *what, const struct file *f, size_t length, uint64_t wanted)
-{
-    uint8_t space[LONGEST_LINE];
-    memset(space, KEPT, sizeof space);
-    expect(what, sinkheron_write_text(f->bytes, length, space, sizeof space), wanted);
-    expect(what, (uint64_t)is_kept(space, space + sizeof space), 1);
-    expect(what, sinkheron_write_text(f->bytes, length, NULL, 0), wanted);
-}
-
-static void unwritten_files(void)
-{
-    static struct file f;
-    file(&f, A);
-    expect_unwritten("two bytes of A", &f, 2, refused(1, 2));
-    expect_unwritten("A cut", &f, 12, refused(3, 1));
-    f.bytes[0] = 2;
-    expect_unwritten("A of version 2", &f, f.length, refused(2, 0));
-    const struct { const char *body; unsigned number; uint64_t place; } row[] = {
-        {"23", 4, 4}, {"22 10 0001 00", 4, 8}, {"23 10", 5, 4}, {"22 20", 5, 4}, {"21 21", 8, 4},
-    };
-    for (size_t k = 0; k < sizeof row / sizeof *row; k++) {
-        file(&f, row[k].body);
-        expect_unwritten(row[k].body, &f, f.length, refused(row[k].number, row[k].place));
-    }
-    repeated(&f, 0x23, 32, "20");
-    expect_unwritten("32 nots", &f, f.length, refused(6, 35));
-    f.length = 4;
-    tree(&f, 128);
-    memcpy(f.bytes, "\1\1\0\43", 4);
-    expect_unwritten("256 nodes", &f, f.length, refused(7, 258));
-}
-
 /* 13 comes behind every other refusal; with no space at all a text or file at fault still gets its own. */
 static void no_space(void)
 {
@@ -576,6 +712,11 @@ int main(void)
     pairs_and_normal_forms();
     edges();
     most_nodes();
+    unread_files();
+    policy_before_request();
+    told_tags();
+    deep_tags();
+    tags_behind_255_nodes();
     lines();
     texts_with_another_word();
     texts_without_a_number();
@@ -587,7 +728,6 @@ int main(void)
     broad_texts();
     deep_and_broad_texts();
     longest();
-    unwritten_files();
     no_space();
     nulls();
     printf("%d passed, %d failed\n", passed, failed);
