@@ -68,14 +68,19 @@ static int stop(struct pass *p, unsigned number, size_t place)
     return -1;
 }
 
-/* The tag of the node that is due, from `low` to `high`; -1 for a refusal. */
+static int is_tag(uint8_t byte)
+{
+    return (byte >= 0x10 && byte <= 0x13) || (byte >= 0x20 && byte <= 0x25);
+}
+
+/* The tag of the node that is due, from `low` to `high`; -1 for a refusal. A tag that is not due is one of the other sort. */
 static int tag(struct pass *p, unsigned left, uint8_t low, uint8_t high)
 {
     if (p->at >= p->length)
         return stop(p, 4, p->length);
     uint8_t t = p->file[p->at];
     if (t < low || t > high)
-        return stop(p, 5, p->at);
+        return stop(p, is_tag(t) ? 15 : 5, p->at);
     if (left == 0)
         return stop(p, 6, p->at);
     if (p->nodes == NODES)
