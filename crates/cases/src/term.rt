@@ -20,7 +20,14 @@ pub const FRESH: usize = 4;
 // No node has this number: it stands for a part that is not there.
 const NONE: usize = 255;
 
-// The columns of a part that is due: whose it is, which of its parts, 1 for a target, how deep.
+// The sorts of nodes, and of a byte that is no tag.
+const POLICY: usize = 0;
+
+const TARGET: usize = 1;
+
+const NEITHER: usize = 2;
+
+// The columns of a part that is due: whose it is, which of its parts, its sort, how deep.
 const PARENT: usize = 0;
 
 const PART: usize = 1;
@@ -66,11 +73,13 @@ pub fn framed(file: &[u8], short: usize, version: usize, length: usize) -> Outco
     refused(0, 0)
 }
 
-fn is_tag(sort: usize, tag: usize) -> bool {
-    if sort == 1 {
-        0x10 <= tag && tag <= 0x13
+fn sort_of(tag: usize) -> usize {
+    if 0x10 <= tag && tag <= 0x13 {
+        TARGET
+    } else if 0x20 <= tag && tag <= 0x25 {
+        POLICY
     } else {
-        0x20 <= tag && tag <= 0x25
+        NEITHER
     }
 }
 
@@ -82,15 +91,19 @@ fn parts(tag: usize) -> usize {
     }
 }
 
-// The number of the refusal at one node, or 0, in document 01's order.
+// The number of the refusal at one node, or 0, in document 01's order; 15 has the place of 5.
 fn fault(file: &[u8], at: usize, sort: usize, depth: usize, count: usize) -> usize {
     let n = file.len();
     let tag = byte(file, at);
+    let met = sort_of(tag);
     if n <= at {
         return 4;
     }
-    if !is_tag(sort, tag) {
+    if met == NEITHER {
         return 5;
+    }
+    if met != sort {
+        return 15;
     }
     if 32 < depth {
         return 6;
@@ -111,7 +124,7 @@ fn owe(due: &mut Table, i: usize, parent: usize, part: usize, sort: usize, depth
 // Puts a node's parts on the stack, the first on top, and answers how high the stack is then.
 fn owe_parts(due: &mut Table, top: usize, node: usize, tag: usize, sort: usize) -> usize {
     let depth = plus(get(due, top, DEPTH), 1);
-    let first = if tag == 0x22 { 1 } else { sort };
+    let first = if tag == 0x22 { TARGET } else { sort };
     match parts(tag) {
         0 => top,
         1 => {
@@ -193,7 +206,7 @@ pub fn read(file: &[u8], nodes: &mut Table) -> Outcome {
         return frame;
     }
     let mut due = [0usize; 2048];
-    owe(&mut due, 0, NONE, FIRST, 0, 1);
+    owe(&mut due, 0, NONE, FIRST, POLICY, 1);
     let s = steps(file, nodes, &mut due);
     let n = file.len();
     if s.number == 4 {
