@@ -7,7 +7,6 @@ use lib.ListN.{length, take}
 use borrow.Author.Tests.{lt-ltb, le-ltb}
 use Rattle.ptacl.specs.Term.{Policy}
 use Rattle.files.specs.Encoding.{policyFile, IsPolicy}
-use Rattle.files.specs.Memory.{over}
 use Rattle.files.specs.Refusal.{Read, accepted}
 use Rattle.files.proofs.Memory.{over-front}
 use Rattle.text.specs.Line.{line, IsText}

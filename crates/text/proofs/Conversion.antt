@@ -5,7 +5,7 @@ use mathlib.Core.List.{List, [], _∷_, _++_, append-assoc}
 use native.Mathlib.Omega.{arith}
 use lib.ListN.{length, take}
 use borrow.Author.Tests.{lt-ltb, le-ltb}
-use Rattle.ptacl.specs.Term.{Sort, Term, Policy, Node, Shape, numbers, leaf, one, two, shape}
+use Rattle.ptacl.specs.Term.{Sort, Term, Policy, Node, Shape, numbers, leaf, one, two}
 use Rattle.files.specs.Encoding.{big, bytes, enc, framed, policyFile}
 use Rattle.files.specs.Refusal.{Read, accepted}
 use Rattle.files.specs.ReadPolicy.{finish}
