@@ -16,7 +16,7 @@ use Rattle.files.specs.Encoding.{big, bytes, enc, Bytes}
 use Rattle.files.specs.Refusal.{Read, accepted, refused, unframed}
 use Rattle.files.specs.Prefix.{Head, node, stop, Scan, done, fault, andThen, below, body, scan}
 use Rattle.files.specs.ReadPolicy.{Byte, tag, other, unknown, byteAt, headAt, pairAt, inBytes, finish, readPolicy}
-use Rattle.files.specs.Due.{Due, aTerm, dueBelow, behindTag, dueBehind, dueAt, Slip, Rubbish}
+use Rattle.files.specs.Due.{Due, aTerm, dueBelow, behindTag, dueBehind, DueNext, Slip, Rubbish}
 use Rattle.files.proofs.Framing.{Framing, faulty, whole, framing, unframed-whole}
 use Rattle.files.proofs.Prefix.{Inside, Adds, adds, Told, Good, good, scan-at}
 use Rattle.files.proofs.SingleByte.{OfNode, byte-node, known, never-unknown}
@@ -183,12 +183,15 @@ module _ (s : List ℕ) (bs : Bytes s) where
       go (faulty n p r) = rw (r .given (finish 8 (length s) x)) (elsewhere (λ e. omega (arith, r .high)) (λ e. omega (arith, r .high)))
       go (whole w) = rw (unframed-whole 1 s (finish 8 (length s) x) w) (finish-why x (faults 255 s bs 32 policy 3 0 (w .long)))
 
-module _ {s : List ℕ} {r : Sort} {place : ℕ} (l : Leads s policy 3 r place) (i : place < length s) where
-  leads-to : dueAt s place ≡ aTerm r ∷ l .later []
-  unfolding dueBehind
-  leads-to =
-      let n : place - 3 ≡ length (l .over) = omega (arith, ap length (l .split), length-append (l .over) (drop place s), length-drop 3 s, length-drop place s) in
-      rw (n, l .split, take-append-seam (l .over) (drop place s)) (ap (dueBehind (aTerm policy ∷ [])) (sym (append-nil (l .over))) ∙ l .due [] [])
+leads-to : {s : List ℕ} {r : Sort} {place : ℕ} → Leads s policy 3 r place → place < length s → DueNext s place r
+unfolding dueBehind
+leads-to {s} {r} {place} l i =
+    let n : place - 3 ≡ length (l .over) = omega (arith, ap length (l .split), length-append (l .over) (drop place s), length-drop 3 s, length-drop place s) in
+    record {
+      inside = i;
+      later = l .later [];
+      is = rw (n, l .split, take-append-seam (l .over) (drop place s)) (ap (dueBehind (aTerm policy ∷ [])) (sym (append-nil (l .over))) ∙ l .due [] []);
+    }
 
 module _ {s : List ℕ} (bs : Bytes s) {place : ℕ} where
   -- the theorem: where a file is refused 15, the byte is a tag of the other sort than the one that is due
@@ -201,7 +204,7 @@ module _ {s : List ℕ} (bs : Bytes s) {place : ℕ} where
         where
           at : (x : Byte r) → Strange 15 x → OfNode (λ q n. getD s place 0 ≡ tagOf n) x → Slip s place
           at (tag n) w h = absurd w
-          at (other n) w h = record { sort = r; later = l .later []; due = leads-to l i; inside = i; node = n; byte = h }
+          at (other n) w h = record { sort = r; due = leads-to l i; node = n; byte = h }
           at unknown w h = absurd (omega arith)
 
   -- the theorem: where it is refused 5, the byte is a tag of neither
@@ -215,10 +218,4 @@ module _ {s : List ℕ} (bs : Bytes s) {place : ℕ} where
           at : (x : Byte r) → byteAt r (getD s place 0) ≡ x → Strange 5 x → Rubbish s place
           at (tag n) u w = absurd w
           at (other n) u w = absurd (omega arith)
-          at unknown u w = record {
-            sort = r;
-            later = l .later [];
-            due = leads-to l i;
-            inside = i;
-            none = λ q n h. never-unknown r q n (ap (byteAt r) (sym h) ∙ u);
-          }
+          at unknown u w = record { sort = r; due = leads-to l i; none = λ q n h. never-unknown r q n (ap (byteAt r) (sym h) ∙ u) }

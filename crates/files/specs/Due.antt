@@ -35,19 +35,21 @@ dueBehind (aTerm s ∷ ds) (x ∷ xs) = dueBehind (behindTag ds (byteAt s x)) xs
 abbrev pub dueAt : List ℕ → ℕ → List Due
 dueAt s place = dueBehind (aTerm policy ∷ []) (take (place - 3) (drop 3 s))
 
--- where a term of a sort is due next, a tag of the other sort
+-- a byte stands there, and a term of that sort is due next
+pub record DueNext (s : List ℕ) (place : ℕ) (sort : Sort) : Type 0 where
+  pub inside : place < length s
+  pub later : List Due
+  pub is : dueAt s place ≡ aTerm sort ∷ later
+
+-- the byte is a tag of the other sort
 pub record Slip (s : List ℕ) (place : ℕ) : Type 0 where
   pub sort : Sort
-  pub later : List Due
-  pub due : dueAt s place ≡ aTerm sort ∷ later
-  pub inside : place < length s
+  pub due : DueNext s place sort
   pub node : Node (otherSort sort)
   pub byte : getD s place 0 ≡ tagOf node
 
--- or a byte that is a tag of neither
+-- it is a tag of neither
 pub record Rubbish (s : List ℕ) (place : ℕ) : Type 0 where
   pub sort : Sort
-  pub later : List Due
-  pub due : dueAt s place ≡ aTerm sort ∷ later
-  pub inside : place < length s
+  pub due : DueNext s place sort
   pub none : (r : Sort) (n : Node r) → getD s place 0 ≡ tagOf n → ⊥
