@@ -3,13 +3,13 @@ use Prim.Native.Nat.{ℕ, zero, suc, _≤_, _+_}
 use mathlib.Core.Path.{_≡_, refl, sym, subst}
 use mathlib.Core.Logic.{_⊎_, inl, inr, ⊎-elim, _↔_}
 use mathlib.Core.Bool.{Bool, true, false, cond}
-use mathlib.Core.List.{List, [], _∷_, _++_}
+use mathlib.Core.List.{List, [], _∷_}
 use native.Mathlib.Omega.{arith}
-use lib.ListN.{getD}
-use Rattle.ptacl.specs.Term.{Policy, deny, allow, targeted, not, default, and}
+use lib.ListN.{length, getD}
+use Rattle.ptacl.specs.Term.{Policy, deny, allow, targeted, not, default, and, or}
 use Rattle.ptacl.specs.Exposure.{Resistant}
-use Rattle.ptacl.specs.Rules.{Effect, allows, denies, rule2, rule3, rule4, Certified, cert1, cert2, cert3, cert4, cert5, cert6}
-use Rattle.ptacl.specs.Rules.{Never, na-deny, na-targeted, na-default, na-left, na-right, na-not, nd-allow, nd-targeted, nd-and, nd-not}
+use Rattle.ptacl.specs.Rules.{Effect, allows, denies, rule2, rule3, rule4, Certified, cert1, cert2, cert3, cert4, cert5, cert6, cert7}
+use Rattle.ptacl.specs.Rules.{Never, na-deny, na-targeted, na-default, na-left, na-right, na-not, na-or, nd-allow, nd-targeted, nd-and, nd-not, nd-left, nd-right}
 use Rattle.ptacl.specs.Rules.{Certificate, none, least, never, base, given, certificate}
 use Rattle.ptacl.proofs.Bools.{clash, and-left, and-right, and-both, or-left, or-right, or-split}
 use Rattle.ptacl.proofs.Rules.{certified-resistant}
@@ -28,6 +28,9 @@ never-holds (default p) denies h = clash h refl
 never-holds (and p r) allows h =
     ⊎-elim (λ k. na-left (never-holds p allows k)) (λ k. na-right (never-holds r allows k)) (or-split (never p allows) h)
 never-holds (and p r) denies h = nd-and (never-holds p denies (and-left _ h)) (never-holds r denies (and-right (never p denies) h))
+never-holds (or p r) allows h = na-or (never-holds p allows (and-left _ h)) (never-holds r allows (and-right (never p allows) h))
+never-holds (or p r) denies h =
+    ⊎-elim (λ k. nd-left (never-holds p denies k)) (λ k. nd-right (never-holds r denies k)) (or-split (never p denies) h)
 
 never-passes : {e : Effect} {p : Policy} → Never e p → never p e ≡ true
 never-passes na-deny = refl
@@ -36,10 +39,13 @@ never-passes (na-default h) = never-passes h
 never-passes (na-left h) = or-left _ (never-passes h)
 never-passes (na-right {p = p} h) = or-right (never p allows) (never-passes h)
 never-passes (na-not h) = never-passes h
+never-passes (na-or h k) = and-both (never-passes h) (never-passes k)
 never-passes nd-allow = refl
 never-passes (nd-targeted h) = never-passes h
 never-passes (nd-and h k) = and-both (never-passes h) (never-passes k)
 never-passes (nd-not h) = never-passes h
+never-passes (nd-left h) = or-left _ (never-passes h)
+never-passes (nd-right {p = p} h) = or-right (never p denies) (never-passes h)
 
 pub never-decides : (e : Effect) (p : Policy) → (never p e ≡ true) ↔ Never e p
 never-decides e p = (never-holds p e, never-passes)
@@ -69,6 +75,8 @@ ends (not p) = base-ends (not p) (inl refl)
 ends (default p) = base-ends (default p) (given-ends (certificate p) (ends p) (λ h. inr (cert5 h)))
 ends (and p r) =
     base-ends (and p r) (given-ends (certificate p) (ends p) (λ h. given-ends (certificate r) (ends r) (λ k. inr (cert6 h k))))
+ends (or p r) =
+    base-ends (or p r) (given-ends (certificate p) (ends p) (λ h. given-ends (certificate r) (ends r) (λ k. inr (cert7 h k))))
 
 -- the number of the first test that passes, counted from n, else k
 abbrev firstOf : ℕ → List Bool → ℕ → ℕ
@@ -81,6 +89,11 @@ first-least n (true ∷ bs) k i h = omega arith
 first-least n (false ∷ bs) k zero h = clash h refl
 first-least n (false ∷ bs) k (suc i) h = let r = first-least (suc n) bs k i h in omega arith
 
+first-between : (n : ℕ) (bs : List Bool) (k : ℕ) → n + length bs ≤ k → (n ≤ firstOf n bs k) × (firstOf n bs k ≤ k)
+first-between n [] k l = omega arith
+first-between n (true ∷ bs) k l = omega arith
+first-between n (false ∷ bs) k l = let r = first-between (suc n) bs k (omega arith) in omega arith
+
 abbrev tests : Policy → List Bool
 tests p = never p allows ∷ rule2 p ∷ rule3 p ∷ rule4 p ∷ []
 
@@ -91,6 +104,7 @@ based (targeted t p) = (_, refl)
 based (not p) = (_, refl)
 based (default p) = (_, refl)
 based (and p r) = (_, refl)
+based (or p r) = (_, refl)
 
 -- no number that applies is below it
 abbrev Upto : ℕ → ℕ → Type 0
@@ -99,22 +113,24 @@ Upto k n = (1 ≤ n) × (n ≤ k)
 rule-upto : (p : Policy) (i : ℕ) → getD (tests p) i false ≡ true → Upto (suc i) (certificate p)
 rule-upto p i h = subst (Upto (suc i)) (based p .1) (let r = first-least 1 (tests p) (based p .0) i h in omega arith)
 
+-- a rule behind the first four
+base-upto : (p : Policy) (k : ℕ) → 5 ≤ k → Upto k (base p k)
+base-upto p k l = first-between 1 (tests p) k l
+
+given-is : (n k : ℕ) → 1 ≤ n → given n k ≡ k
+given-is zero k l = absurd (omega arith)
+given-is (suc n) k l = refl
+
 upto : {k : ℕ} {p : Policy} → Certified k p → Upto k (certificate p)
 upto (cert1 {p = p} h) = rule-upto p 0 (never-passes h)
 upto (cert2 {p = p} h) = rule-upto p 1 h
 upto (cert3 {p = p} h) = rule-upto p 2 h
 upto (cert4 {p = p} h) = rule-upto p 3 h
-upto (cert5 {p = p} h) = go (certificate p) (upto h .0)
-  where
-    go : (n : ℕ) → 1 ≤ n → Upto 5 (base (default p) (given n 5))
-    go zero l = absurd (omega arith)
-    go (suc n) l = first-least 1 (tests (default p) ++ (true ∷ [])) 0 4 refl
-upto (cert6 {p = p} {r = r} h k) = go (certificate p) (certificate r) (upto h .0) (upto k .0)
-  where
-    go : (m n : ℕ) → 1 ≤ m → 1 ≤ n → Upto 6 (base (and p r) (given m (given n 6)))
-    go zero n l k = absurd (omega arith)
-    go (suc m) zero l k = absurd (omega arith)
-    go (suc m) (suc n) l k = first-least 1 (tests (and p r) ++ (false ∷ true ∷ [])) 0 5 refl
+upto (cert5 {p = p} h) = rw (given-is (certificate p) 5 (upto h .0)) (base-upto (default p) 5 (omega arith))
+upto (cert6 {p = p} {r = r} h k) =
+    rw (given-is (certificate p) (given (certificate r) 6) (upto h .0), given-is (certificate r) 6 (upto k .0)) (base-upto (and p r) 6 (omega arith))
+upto (cert7 {p = p} {r = r} h k) =
+    rw (given-is (certificate p) (given (certificate r) 7) (upto h .0), given-is (certificate r) 7 (upto k .0)) (base-upto (or p r) 7 (omega arith))
 
 pub certificate-is : (p : Policy) → Certificate p (certificate p)
 certificate-is p =

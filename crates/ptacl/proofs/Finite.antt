@@ -1,10 +1,12 @@
 -- Two tests that agree at every value of a finite type, which is computed, agree. A test that passes at every node, which is computed,
--- passes at each.
+-- passes at each; so no byte is that of nodes of both sorts.
 use mathlib.Core.Path.{_≡_, refl, sym}
-use mathlib.Core.Bool.{Bool, true, false, _&&_, Bool·beq}
+use mathlib.Core.Bool.{Bool, true, false, not as no, _&&_, _||_, Bool·beq, true≢false}
+use lib.Dec.{eqb}
+use borrow.Author.Tests.{eq-eqb}
 use Rattle.ptacl.specs.Value.{Value, v1, v0, vU}
 use Rattle.ptacl.specs.Values.{Values}
-use Rattle.ptacl.specs.Term.{Sort, target, policy, Node, anAtom, aDeny, anAllow, aTargeted, aNot, aDefault, anAnd}
+use Rattle.ptacl.specs.Term.{Sort, target, policy, Node, anAtom, aDeny, anAllow, aTargeted, aNot, aDefault, anAnd, anOr, tagOf}
 use Rattle.ptacl.proofs.Bools.{and-left, and-right}
 
 -- a test of all values, and that it tells of each
@@ -49,26 +51,68 @@ module _ {A : Type 0} (F : Finite A) where
     pub by2 : (f g : A → B → Bool) → F .all (λ a. G .all (λ b. Bool·beq (f a b) (g a b))) ≡ true → (a : A) (b : B) → f a b ≡ g a b
     by2 f g h a b = beq-equal (G .at (λ b. Bool·beq (f a b) (g a b)) (F .at (λ a. G .all (λ b. Bool·beq (f a b) (g a b))) h a) b)
 
-abbrev bothSorts : (Sort → Bool) → Bool
-bothSorts f = f target && f policy
+-- four tests at once
+abbrev four : Bool → Bool → Bool → Bool → Bool
+four a b c d = (a && b) && (c && d)
 
-at-sort : (f : Sort → Bool) → bothSorts f ≡ true → (s : Sort) → f s ≡ true
-at-sort f h target = and-left _ h
-at-sort f h policy = and-right (f target) h
+abbrev Pass : Bool → Bool → Bool → Bool → Type 0
+Pass a b c d = (a ≡ true) × (b ≡ true) × (c ≡ true) × (d ≡ true)
 
--- of one sort, and of either
-abbrev outer : ((s : Sort) → Node s → Bool) → Bool
-outer f = f target anAtom && (f policy aDeny && (f policy anAllow && f policy aTargeted))
+four-pass : (a b c d : Bool) → four a b c d ≡ true → Pass a b c d
+four-pass a b c d h =
+    let l = and-left (c && d) h in let r = and-right (a && b) h in (and-left b l, and-right a l, and-left d r, and-right c r)
 
-abbrev inner : ((s : Sort) → Node s → Bool) → Bool
-inner f = bothSorts (λ s. f s (aNot s)) && (bothSorts (λ s. f s (aDefault s)) && bothSorts (λ s. f s (anAnd s)))
+module _ (f : (s : Sort) → Node s → Bool) where
+  abbrev onBoth : ((s : Sort) → Node s) → Bool
+  onBoth n = f target (n target) && f policy (n policy)
 
-pub at-node : (f : (s : Sort) → Node s → Bool) → (outer f && inner f) ≡ true → {s : Sort} (n : Node s) → f s n ≡ true
-at-node f h anAtom = and-left _ (and-left (inner f) h)
-at-node f h aDeny = and-left _ (and-right (f target anAtom) (and-left (inner f) h))
-at-node f h anAllow = and-left _ (and-right (f policy aDeny) (and-right (f target anAtom) (and-left (inner f) h)))
-at-node f h aTargeted = and-right (f policy anAllow) (and-right (f policy aDeny) (and-right (f target anAtom) (and-left (inner f) h)))
-at-node f h (aNot s) = at-sort (λ s. f s (aNot s)) (and-left _ (and-right (outer f) h)) s
-at-node f h (aDefault s) = at-sort (λ s. f s (aDefault s)) (and-left _ (and-right (bothSorts (λ s. f s (aNot s))) (and-right (outer f) h))) s
-at-node f h (anAnd s) =
-    at-sort (λ s. f s (anAnd s)) (and-right (bothSorts (λ s. f s (aDefault s))) (and-right (bothSorts (λ s. f s (aNot s))) (and-right (outer f) h))) s
+  at-both : (n : (s : Sort) → Node s) → onBoth n ≡ true → (s : Sort) → f s (n s) ≡ true
+  at-both n h target = and-left _ h
+  at-both n h policy = and-right (f target (n target)) h
+
+  -- the nodes of one sort, and of either
+  abbrev outer : Bool
+  outer = four (f target anAtom) (f policy aDeny) (f policy anAllow) (f policy aTargeted)
+
+  abbrev inner : Bool
+  inner = four (onBoth aNot) (onBoth aDefault) (onBoth anAnd) (onBoth anOr)
+
+  outer-pass : outer ≡ true → Pass (f target anAtom) (f policy aDeny) (f policy anAllow) (f policy aTargeted)
+  outer-pass = four-pass _ _ _ _
+
+  inner-pass : inner ≡ true → Pass (onBoth aNot) (onBoth aDefault) (onBoth anAnd) (onBoth anOr)
+  inner-pass = four-pass _ _ _ _
+
+  abbrev pub everyNode : Bool
+  everyNode = outer && inner
+
+  pub at-node : everyNode ≡ true → {s : Sort} (n : Node s) → f s n ≡ true
+  at-node h anAtom = outer-pass (and-left inner h) .0
+  at-node h aDeny = outer-pass (and-left inner h) .1
+  at-node h anAllow = outer-pass (and-left inner h) .2
+  at-node h aTargeted = outer-pass (and-left inner h) .3
+  at-node h (aNot s) = at-both aNot (inner-pass (and-right outer h) .0) s
+  at-node h (aDefault s) = at-both aDefault (inner-pass (and-right outer h) .1) s
+  at-node h (anAnd s) = at-both anAnd (inner-pass (and-right outer h) .2) s
+  at-node h (anOr s) = at-both anOr (inner-pass (and-right outer h) .3) s
+
+-- of two nodes with the same byte the sort is the same
+abbrev sameSort : Sort → Sort → Bool
+sameSort target target = true
+sameSort target policy = false
+sameSort policy target = false
+sameSort policy policy = true
+
+abbrev told : (r : Sort) → Node r → (s : Sort) → Node s → Bool
+told r m s n = no (eqb (tagOf m) (tagOf n)) || sameSort r s
+
+pub tag-sort : {r s : Sort} (m : Node r) (n : Node s) → tagOf m ≡ tagOf n → r ≡ s
+tag-sort {r} {s} m n e =
+    let h : told r m s n ≡ true = at-node (told r m) (at-node (λ r m. everyNode (told r m)) refl m) n in
+    go r s (rw (eq-eqb (tagOf m) (tagOf n) e) at h)
+  where
+    go : (r s : Sort) → sameSort r s ≡ true → r ≡ s
+    go target target h = refl
+    go target policy h = absurd (true≢false (sym h))
+    go policy target h = absurd (true≢false (sym h))
+    go policy policy h = refl

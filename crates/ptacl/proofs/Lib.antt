@@ -14,5 +14,6 @@ pub mod Exposed
 pub mod First
 pub mod Sets
 pub mod Rules
+pub mod Spelled
 pub mod Cert
 pub mod Worked

@@ -6,10 +6,10 @@ use mathlib.Core.Bool.{true, false, not as no, _&&_, and-false, or-false}
 use mathlib.Core.List.{List, [], _∷_, _++_}
 use lib.Dec.{eqb}
 use borrow.Author.Tests.{eqb-true, not-true}
-use Rattle.ptacl.specs.Value.{notV, defaultV, andV}
+use Rattle.ptacl.specs.Value.{notV, defaultV, andV, orV}
 use Rattle.ptacl.specs.Values.{under}
 use Rattle.ptacl.specs.Request.{Pair, Request, samePair, holds, has, Within}
-use Rattle.ptacl.specs.Term.{Sort, Term, atom, deny, allow, targeted, not, default, and, atoms}
+use Rattle.ptacl.specs.Term.{Sort, Term, atom, deny, allow, targeted, not, default, and, or, atoms}
 use Rattle.ptacl.specs.Meaning.{lift, lift2, eval}
 use Rattle.ptacl.specs.Pairs.{named, fresh, unnamed, normal, IsNormal}
 use Rattle.ptacl.proofs.Bools.{either, clash, iff, not-false, eqb-same}
@@ -42,6 +42,8 @@ eval-agree (not {s = s} t) a = ap (lift notV s) (eval-agree t a)
 eval-agree (default {s = s} t) a = ap (lift defaultV s) (eval-agree t a)
 eval-agree (and {s = s} t u) a =
     ap₂ (lift2 andV s) (eval-agree t (agree-left (atoms t) (atoms u) a)) (eval-agree u (agree-right (atoms t) (atoms u) a))
+eval-agree (or {s = s} t u) a =
+    ap₂ (lift2 orV s) (eval-agree t (agree-left (atoms t) (atoms u) a)) (eval-agree u (agree-right (atoms t) (atoms u) a))
 
 -- requests that hold the same pairs
 pub eval-same : {s : Sort} (t : Term s) (q r : Request) → ((x : Pair) → holds q x ≡ holds r x) → eval t q ≡ eval t r

@@ -6,7 +6,7 @@ use mathlib.Core.List.{List, [], _∷_, _++_, map}
 use native.Mathlib.Omega.{arith}
 use lib.ListN.{length, length-append, length-map}
 use Rattle.ptacl.specs.Request.{Pair, samePair, holds, below, belowHead, ascending}
-use Rattle.ptacl.specs.Term.{Sort, target, policy, Term, Policy, atom, deny, allow, targeted, not, default, and, nodes, atoms}
+use Rattle.ptacl.specs.Term.{Sort, target, policy, Term, Policy, atom, deny, allow, targeted, not, default, and, or, nodes, atoms}
 use Rattle.ptacl.specs.Pairs.{named, fresh, namedOrFresh, IsPairs}
 use Rattle.ptacl.proofs.Bools.{either, and-left, and-right, and-both, or-swap, iff}
 use Rattle.ptacl.proofs.Requests.{pair-equal, found, holds-append, holds-has, has-holds, holds-map, map-holds}
@@ -97,6 +97,7 @@ atoms-few (targeted t p) = let h = atoms-few t in let k = atoms-few p in omega (
 atoms-few (not t) = let h = atoms-few t in omega arith
 atoms-few (default t) = let h = atoms-few t in omega arith
 atoms-few (and t u) = let h = atoms-few t in let k = atoms-few u in omega (arith, length-append (atoms t) (atoms u))
+atoms-few (or t u) = let h = atoms-few t in let k = atoms-few u in omega (arith, length-append (atoms t) (atoms u))
 
 -- the limit of a file
 module _ (p : Policy) (few : nodes p ≤ 255) where

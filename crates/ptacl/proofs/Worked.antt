@@ -1,4 +1,5 @@
--- The worked policies A to F of document 01 as terms, proved together as one table; and its counterexample to weak monotonicity.
+-- The worked policies A to F of document 01 as terms, with policies of document 02's or, proved together as one table; and the
+-- counterexample to weak monotonicity.
 use Prim.Native.Nat.{ℕ, _<_, _-_, _^_}
 use mathlib.Core.Path.{_≡_, refl, ap₂, subst, _∙_}
 use mathlib.Core.Bool.{Bool, true, false, not as no, _&&_}
@@ -9,11 +10,12 @@ use borrow.Author.Tests.{eqb-true, ltb-true, not-true}
 use Rattle.ptacl.specs.Value.{v0, vU}
 use Rattle.ptacl.specs.Values.{code, under, only}
 use Rattle.ptacl.specs.Request.{Pair, Request, samePair, Within}
-use Rattle.ptacl.specs.Term.{Target, Policy, atom, deny, allow, targeted, not, default, and, atoms}
+use Rattle.ptacl.specs.Term.{Target, Policy, atom, deny, allow, targeted, not, default, and, or, atoms}
 use Rattle.ptacl.specs.Meaning.{lift, lift2, eval}
 use Rattle.ptacl.specs.Pairs.{allBelow, IsPairs}
 use Rattle.ptacl.specs.Exposure.{strict, Resistant, bit, subset, Exposure, First}
 use Rattle.ptacl.specs.Rules.{Certificate, certificate}
+use Rattle.ptacl.specs.Spelled.{spelled}
 use Rattle.ptacl.proofs.Bools.{clash, or-left, and-left, and-right, and-both, not-false, below-at}
 use Rattle.ptacl.proofs.Requests.{pair-equal, holds-append}
 use Rattle.ptacl.proofs.Pairs.{pairsOf, pairs-exist}
@@ -63,6 +65,21 @@ D = targeted (not (default (atom 1 1))) allow
 abbrev pub E : Policy
 E = not (not (default (targeted (atom 1 2) allow)))
 
+-- allow only if column verified or supervisor present; with the or spelled out it has no certificate any more
+abbrev pub G : Policy
+G = default (targeted (or (atom 1 2) (atom 2 1)) allow)
+
+abbrev gPairs : List Pair
+gPairs = (1, 0) ∷ (1, 2) ∷ (2, 0) ∷ (2, 1) ∷ []
+
+-- two certified policies that no other rule certifies together
+abbrev pub H : Policy
+H = or (default (targeted (atom 1 2) allow)) (not (targeted (atom 2 1) deny))
+
+-- one of the two is A
+abbrev pub I : Policy
+I = or A B
+
 abbrev row : Policy → List Pair → List (Request × ℕ) → ℕ → Verdict → Row
 row p ps cs n v = record { policy = p; pairs = ps; codes = cs; number = n; verdict = v }
 
@@ -73,6 +90,10 @@ table =
     ∷ row C ((1, 0) ∷ (1, 1) ∷ []) (((1, 0) ∷ [], 1) ∷ ((1, 0) ∷ (1, 1) ∷ [], 4) ∷ []) 0 (exposedAt 3 1)
     ∷ row D ((1, 0) ∷ (1, 1) ∷ []) (([], 1) ∷ []) 0 (exposedAt 2 1)
     ∷ row E ((1, 0) ∷ (1, 2) ∷ []) [] 0 resistant
+    ∷ row G gPairs (([], 3) ∷ ((1, 2) ∷ [], 1) ∷ ((2, 1) ∷ [], 1) ∷ ((1, 0) ∷ [], 3) ∷ ((1, 0) ∷ (2, 0) ∷ [], 2) ∷ []) 4 resistant
+    ∷ row (spelled G) gPairs [] 0 resistant
+    ∷ row H gPairs [] 7 resistant
+    ∷ row I ((1, 0) ∷ (1, 1) ∷ (1, 2) ∷ []) (((1, 0) ∷ [], 1) ∷ ((1, 0) ∷ (1, 1) ∷ [], 2) ∷ []) 0 (exposedAt 3 1)
     ∷ row allow [] [] 2 resistant
     ∷ row deny [] [] 1 resistant
     ∷ []

@@ -6,4 +6,5 @@ pub mod Meaning
 pub mod Pairs
 pub mod Exposure
 pub mod Rules
+pub mod Spelled
 pub mod Cases

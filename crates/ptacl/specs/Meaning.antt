@@ -1,10 +1,10 @@
 -- Document 01, "Names, requests, three values": what a target and a policy come to.
 use Prim.Native.Nat.{ℕ}
 use mathlib.Core.Bool.{cond}
-use Rattle.ptacl.specs.Value.{Value, v1, v0, vU, notV, defaultV, andV}
+use Rattle.ptacl.specs.Value.{Value, v1, v0, vU, notV, defaultV, andV, orV}
 use Rattle.ptacl.specs.Values.{Values, single, each, each2, under}
 use Rattle.ptacl.specs.Request.{Request, holds, has}
-use Rattle.ptacl.specs.Term.{Sort, target, policy, Term, atom, deny, allow, targeted, not, default, and}
+use Rattle.ptacl.specs.Term.{Sort, target, policy, Term, atom, deny, allow, targeted, not, default, and, or}
 
 -- a target comes to a value, a policy to a set of values
 abbrev pub Meaning : Sort → Type 0
@@ -32,3 +32,4 @@ eval (targeted t p) q = under (eval t q) (eval p q)
 eval (not {s = s} t) q = lift notV s (eval t q)
 eval (default {s = s} t) q = lift defaultV s (eval t q)
 eval (and {s = s} t u) q = lift2 andV s (eval t q) (eval u q)
+eval (or {s = s} t u) q = lift2 orV s (eval t q) (eval u q)

@@ -1,8 +1,9 @@
--- Document 01, "Structural rules": the two judgements and the certificates as derivations, and the certificate's number.
+-- Document 01, "Structural rules", with document 02, C-13: the two judgements and the certificates as derivations, and the certificate's
+-- number.
 use Prim.Native.Nat.{ℕ, zero, suc, _≤_}
 use mathlib.Core.Path.{_≡_}
 use mathlib.Core.Bool.{Bool, true, false, _&&_, _||_, cond}
-use Rattle.ptacl.specs.Term.{Sort, target, policy, Term, Target, Policy, deny, allow, targeted, not, default, and, aTargeted, aNot, aDefault, without}
+use Rattle.ptacl.specs.Term.{Sort, target, policy, Term, Target, Policy, deny, allow, targeted, not, default, and, or, aTargeted, aNot, aDefault, without}
 
 pub data Effect : Type 0 where
   allows denies : Effect
@@ -15,10 +16,13 @@ pub data Never : Effect → Policy → Type 0 where
   na-left : {p r : Policy} → Never allows p → Never allows (and p r)
   na-right : {p r : Policy} → Never allows r → Never allows (and p r)
   na-not : {p : Policy} → Never denies p → Never allows (not p)
+  na-or : {p r : Policy} → Never allows p → Never allows r → Never allows (or p r)
   nd-allow : Never denies allow
   nd-targeted : {t : Target} {p : Policy} → Never denies p → Never denies (targeted t p)
   nd-and : {p r : Policy} → Never denies p → Never denies r → Never denies (and p r)
   nd-not : {p : Policy} → Never allows p → Never denies (not p)
+  nd-left : {p r : Policy} → Never denies p → Never denies (or p r)
+  nd-right : {p r : Policy} → Never denies r → Never denies (or p r)
 
 -- a target is plain if it has no not in it; so are all targets of a policy
 abbrev pub plain : {s : Sort} → Term s → Bool
@@ -41,6 +45,7 @@ pub data Certified : ℕ → Policy → Type 0 where
   cert4 : {p : Policy} → rule4 p ≡ true → Certified 4 p
   cert5 : {k : ℕ} {p : Policy} → Certified k p → Certified 5 (default p)
   cert6 : {k l : ℕ} {p r : Policy} → Certified k p → Certified l r → Certified 6 (and p r)
+  cert7 : {k l : ℕ} {p r : Policy} → Certified k p → Certified l r → Certified 7 (or p r)
 
 -- the smallest number that applies, or 0
 pub data Certificate (p : Policy) : ℕ → Type 0 where
@@ -60,6 +65,8 @@ never (default p) allows = never p allows
 never (default p) denies = false
 never (and p r) allows = never p allows || never r allows
 never (and p r) denies = never p denies && never r denies
+never (or p r) allows = never p allows && never r allows
+never (or p r) denies = never p denies || never r denies
 
 -- the number of the first of rules 1 to 4 that applies, else k
 abbrev pub base : Policy → ℕ → ℕ
@@ -77,3 +84,4 @@ certificate (targeted t p) = base (targeted t p) 0
 certificate (not p) = base (not p) 0
 certificate (default p) = base (default p) (given (certificate p) 5)
 certificate (and p r) = base (and p r) (given (certificate p) (given (certificate r) 6))
+certificate (or p r) = base (or p r) (given (certificate p) (given (certificate r) 7))

@@ -1,5 +1,5 @@
--- Document 01, "Names, requests, three values": targets and policies, one family of terms over the two sorts; their nodes,
--- each known by its byte in the table of "Files".
+-- Document 01, "Names, requests, three values", with the or of document 02, C-13: targets and policies, one family of terms over the two
+-- sorts; their nodes, each known by its byte in the table of "Files".
 use Prim.Native.Nat.{ℕ, _+_}
 use mathlib.Core.Bool.{Bool, not as no, _&&_}
 use mathlib.Core.List.{List, [], _∷_, _++_}
@@ -15,7 +15,7 @@ pub data Term : Sort → Type 0 where
   deny allow : Term policy
   targeted : Term target → Term policy → Term policy
   not default : {s : Sort} → Term s → Term s
-  and : {s : Sort} → Term s → Term s → Term s
+  and or : {s : Sort} → Term s → Term s → Term s
 
 abbrev pub Target : Type 0
 Target = Term target
@@ -26,7 +26,7 @@ Policy = Term policy
 pub data Node : Sort → Type 0 where
   anAtom : Node target
   aDeny anAllow aTargeted : Node policy
-  aNot aDefault anAnd : (s : Sort) → Node s
+  aNot aDefault anAnd anOr : (s : Sort) → Node s
 
 -- the table of bytes
 abbrev pub tagOf : {s : Sort} → Node s → ℕ
@@ -34,12 +34,14 @@ tagOf anAtom = 0x10
 tagOf (aNot target) = 0x11
 tagOf (aDefault target) = 0x12
 tagOf (anAnd target) = 0x13
+tagOf (anOr target) = 0x14
 tagOf aDeny = 0x20
 tagOf anAllow = 0x21
 tagOf aTargeted = 0x22
 tagOf (aNot policy) = 0x23
 tagOf (aDefault policy) = 0x24
 tagOf (anAnd policy) = 0x25
+tagOf (anOr policy) = 0x26
 
 -- the table's column "followed by": what is below a node, and the term that it makes of that; of two terms the second is of the
 -- node's own sort
@@ -57,6 +59,7 @@ shape aTargeted = two target targeted
 shape (aNot s) = one (λ t. not t)
 shape (aDefault s) = one (λ t. default t)
 shape (anAnd s) = two s (λ t u. and t u)
+shape (anOr s) = two s (λ t u. or t u)
 
 -- what comes of a term, by the shape of its node, from what comes of the terms below it
 pub record Steps (A : Type 0) : Type 0 where
@@ -73,6 +76,7 @@ fold f (targeted t p) = f .two policy aTargeted (fold f t) (fold f p)
 fold f (not {s = s} t) = f .one s (aNot s) (fold f t)
 fold f (default {s = s} t) = f .one s (aDefault s) (fold f t)
 fold f (and {s = s} t u) = f .two s (anAnd s) (fold f t) (fold f u)
+fold f (or {s = s} t u) = f .two s (anOr s) (fold f t) (fold f u)
 
 -- how many nodes it has
 abbrev pub nodes : {s : Sort} → Term s → ℕ

@@ -31,3 +31,7 @@ defaultV vU = v0
 -- strong conjunction: 0 if either side is 0; else U if either side is U; else 1
 abbrev pub andV : Value → Value → Value
 andV a b = cond (same a v0 || same b v0) v0 (cond (same a vU || same b vU) vU v1)
+
+-- document 02, C-13: an or has the meaning of not(and(not, not)), so 1 if either side is 1; else U if either side is U; else 0
+abbrev pub orV : Value → Value → Value
+orV a b = cond (same a v1 || same b v1) v1 (cond (same a vU || same b vU) vU v0)

@@ -1,6 +1,6 @@
 // PTaCL: the three values of a target, and decision sets.
 ghost use mathlib.Core.Path.{_≡_};
-ghost use Rattle.ptacl.specs.Value.{notV, defaultV, andV};
+ghost use Rattle.ptacl.specs.Value.{notV, defaultV, andV, orV};
 ghost use Rattle.ptacl.specs.Values.{single, union, each, each2, code, setOf};
 ghost use Rattle.ptacl.specs.Cases.{valueOf, Targeted};
 
@@ -124,6 +124,13 @@ impl DecisionSet {
         DecisionSet {
             code: CONJUNCTION[at],
         }
+    }
+
+    // An or is not(and(not, not)), so the one table serves it too.
+    pub fn or(self, other: DecisionSet) -> DecisionSet
+        ensures { λ r. ⌜ r .code ≡ code (each2 orV (setOf (self .code)) (setOf (other .code))) ⌝ }
+    {
+        self.not().and(other.not()).not()
     }
 
     pub fn not(self) -> DecisionSet
