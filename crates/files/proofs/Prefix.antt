@@ -12,7 +12,7 @@ use lib.Seq.{drop-length}
 use borrow.Author.Tests.{ltb-false}
 use Rattle.ptacl.specs.Request.{Pair}
 use Rattle.ptacl.specs.Term.{Sort, Term, Policy, nodes, atoms}
-use Rattle.ptacl.specs.Term.{Node, anAtom, aDeny, anAllow, aTargeted, aNot, aDefault, anAnd, Shape, numbers, leaf, one, two, shape}
+use Rattle.ptacl.specs.Term.{Node, anAtom, aDeny, anAllow, aTargeted, aNot, aDefault, anAnd, anOr, Shape, numbers, leaf, one, two, shape}
 use Rattle.ptacl.proofs.Shapes.{Case, by-shape}
 use Rattle.files.specs.Encoding.{depth, InRange, Fits}
 use Rattle.files.specs.Refusal.{accepted, refused}
@@ -82,6 +82,7 @@ module _ {E : Type 0} (f : Form E) where
   adds (aNot s) = λ t end. (refl, refl, refl, refl)
   adds (aDefault s) = λ t end. (refl, refl, refl, refl)
   adds (anAnd s) = λ t u end. (refl, refl, refl, refl)
+  adds (anOr s) = λ t u end. (refl, refl, refl, refl)
 
 range-append : (xs ys : List Pair) → InRange xs → InRange ys → InRange (xs ++ ys)
 unfolding InRange

@@ -8,7 +8,7 @@ use native.Mathlib.Omega.{arith}
 use lib.Dec.{eqb, ltb}
 use borrow.Author.Tests.{eqb-true, ltb-true}
 use Rattle.ptacl.specs.Pairs.{allBelow}
-use Rattle.ptacl.specs.Term.{Sort, target, policy, Node, anAtom, aDeny, anAllow, aTargeted, aNot, aDefault, anAnd, tagOf}
+use Rattle.ptacl.specs.Term.{Sort, target, policy, Node, anAtom, aDeny, anAllow, aTargeted, aNot, aDefault, anAnd, anOr, tagOf}
 use Rattle.ptacl.proofs.Bools.{either, and-left, and-right, below-at}
 use Rattle.ptacl.proofs.Finite.{at-node}
 use Rattle.files.specs.ReadPolicy.{otherSort, Byte, tag, other, unknown, find, nodesOf, byteAt}
@@ -55,6 +55,8 @@ known (aDefault target) = refl
 known (aDefault policy) = refl
 known (anAnd target) = refl
 known (anAnd policy) = refl
+known (anOr target) = refl
+known (anOr policy) = refl
 
 -- so a byte is that of one node of the sort
 pub same-node : {s : Sort} (m n : Node s) → tagOf m ≡ tagOf n → m ≡ n

@@ -8,7 +8,7 @@ use native.Mathlib.Omega.{arith}
 use lib.ListN.{length, getD, take, drop, length-append, length-drop}
 use lib.Seq.{take-all}
 use Rattle.ptacl.specs.Term.{Sort, target, policy, Term, Policy, nodes}
-use Rattle.ptacl.specs.Term.{Node, anAtom, aDeny, anAllow, aTargeted, aNot, aDefault, anAnd, tagOf, Shape, numbers, leaf, one, two, shape}
+use Rattle.ptacl.specs.Term.{Node, anAtom, aDeny, anAllow, aTargeted, aNot, aDefault, anAnd, anOr, tagOf, Shape, numbers, leaf, one, two, shape}
 use Rattle.ptacl.proofs.Shapes.{Case, by-shape}
 use Rattle.files.specs.Encoding.{bytes, enc, policyFile, framed, Bytes, IsPolicy}
 use Rattle.files.specs.Refusal.{Read, accepted, refused, dec16}
@@ -129,11 +129,16 @@ module _ {b : List ℕ} {i : ℕ} {s : Sort} (n : Node s) (e : getD b i 0 ≡ ta
         λ m d. record { term = u; here = rw (d t h) g; few = omega (arith, law t u tt .1) },
       )
 
+-- the byte of a node that has two terms of its own sort
+pub data Joins (s : Sort) (k : ℕ) : Type 0 where
+  an-and : k ≡ tagOf (anAnd s) → Joins s k
+  an-or : k ≡ tagOf (anOr s) → Joins s k
+
 -- the byte of a node that has a term of its own sort next
 pub data Inner (s : Sort) (k : ℕ) : Type 0 where
   a-not : k ≡ tagOf (aNot s) → Inner s k
   a-default : k ≡ tagOf (aDefault s) → Inner s k
-  an-and : k ≡ tagOf (anAnd s) → Inner s k
+  joins : Joins s k → Inner s k
 
 -- the byte of no node of the sort that has none
 abbrev pub NotOuter : Sort → ℕ → Type 0
@@ -147,12 +152,18 @@ inner anAllow e f = absurd (f .1 e)
 inner aTargeted e f = absurd (f .2 e)
 inner (aNot s) e f = a-not e
 inner (aDefault s) e f = a-default e
-inner (anAnd s) e f = an-and e
+inner (anAnd s) e f = joins (an-and e)
+inner (anOr s) e f = joins (an-or e)
 
-pub has-and-tag : {s : Sort} {k : ℕ} → Inner s k → (k ≡ tagOf (aNot s) → ⊥) → (k ≡ tagOf (aDefault s) → ⊥) → k ≡ tagOf (anAnd s)
-has-and-tag (a-not e) f g = absurd (f e)
-has-and-tag (a-default e) f g = absurd (g e)
-has-and-tag (an-and e) f g = e
+-- by the tests that it fails
+pub joins-tag : {s : Sort} {k : ℕ} → Inner s k → (k ≡ tagOf (aNot s) → ⊥) → (k ≡ tagOf (aDefault s) → ⊥) → Joins s k
+joins-tag (a-not e) f g = absurd (f e)
+joins-tag (a-default e) f g = absurd (g e)
+joins-tag (joins j) f g = j
+
+pub and-tag : {s : Sort} {k : ℕ} → Joins s k → (k ≡ tagOf (anOr s) → ⊥) → k ≡ tagOf (anAnd s)
+and-tag (an-and e) f = e
+and-tag (an-or e) f = absurd (f e)
 
 module _ {b : List ℕ} {i : ℕ} {s : Sort} {count : ℕ} (p : Has s b i count) where
   pub has-room : i < length b
@@ -164,10 +175,14 @@ module _ {b : List ℕ} {i : ℕ} {s : Sort} {count : ℕ} (p : Has s b i count)
   pub has-inner : NotOuter s (getD b i 0) → Inner s (getD b i 0)
   has-inner = let w = view (p .term) (p .here) in inner (w .node) (w .is)
 
+  pub has-both : Joins s (getD b i 0) → Has s b (i + 1) (count - 1) × ((m : ℕ) → Ends s b (i + 1) m → Has s b m (count - 1))
+  has-both (an-and e) = parts (anAnd s) e p
+  has-both (an-or e) = parts (anOr s) e p
+
   pub has-first : Inner s (getD b i 0) → Has s b (i + 1) (count - 1)
   has-first (a-not e) = parts (aNot s) e p
   has-first (a-default e) = parts (aDefault s) e p
-  has-first (an-and e) = parts (anAnd s) e p .0
+  has-first (joins j) = has-both j .0
 
 -- what the code's answer for a file tells
 pub policy-accepted : (x : Read Policy) → policyRead x ≡ PolicyRead.Accepted → (p : Policy) × (x ≡ accepted p)

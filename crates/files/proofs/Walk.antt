@@ -8,8 +8,8 @@ use lib.Dec.{eqb}
 use lib.ListN.{length, drop, getD, length-drop, drop-of-length-le}
 use lib.Seq.{drop-drop, getD-drop}
 use Rattle.ptacl.specs.Request.{Pair}
-use Rattle.ptacl.specs.Term.{Sort, target, policy, Term, atom, deny, allow, targeted, not, default, and, atoms, without}
-use Rattle.ptacl.specs.Term.{Node, aNot, aDefault, anAnd, tagOf, fold}
+use Rattle.ptacl.specs.Term.{Sort, target, policy, Term, atom, deny, allow, targeted, not, default, and, or, atoms, without}
+use Rattle.ptacl.specs.Term.{Node, aNot, aDefault, anAnd, anOr, tagOf, fold}
 use Rattle.files.specs.Encoding.{enc}
 use Rattle.files.specs.Prefix.{spell}
 use Rattle.files.specs.Refusal.{dec16}
@@ -62,6 +62,7 @@ atoms-met (targeted t p) = rw (pairs-append (items t) (items p), atoms-met t, at
 atoms-met (not t) = atoms-met t
 atoms-met (default t) = atoms-met t
 atoms-met (and t u) = rw (pairs-append (items t) (items u), atoms-met t, atoms-met u)
+atoms-met (or t u) = rw (pairs-append (items t) (items u), atoms-met t, atoms-met u)
 
 none-append : (k : ℕ) (is js : List Item) → meetsNo k (is ++ js) ≡ (meetsNo k is && meetsNo k js)
 none-append k [] js = refl
@@ -76,9 +77,10 @@ nodes-met k (targeted t p) = rw (none-append (tagOf k) (items t) (items p), node
 nodes-met k (not t) = rw (nodes-met k t)
 nodes-met k (default t) = rw (nodes-met k t)
 nodes-met k (and t u) = rw (none-append (tagOf k) (items t) (items u), nodes-met k t, nodes-met k u)
+nodes-met k (or t u) = rw (none-append (tagOf k) (items t) (items u), nodes-met k t, nodes-met k u)
 
 -- no other node has an atom's byte
-above : (s : Sort) → (0x10 < tagOf (aNot s)) × (0x10 < tagOf (aDefault s)) × (0x10 < tagOf (anAnd s))
+above : (s : Sort) → (0x10 < tagOf (aNot s)) × (0x10 < tagOf (aDefault s)) × (0x10 < tagOf (anAnd s)) × (0x10 < tagOf (anOr s))
 above target = omega arith
 above policy = omega arith
 
@@ -97,6 +99,7 @@ walk-term (targeted t p) w = node (omega arith) (simp append-assoc (walk-term t 
 walk-term (not {s = s} t) w = node (above s .0) (walk-term t w)
 walk-term (default {s = s} t) w = node (above s .1) (walk-term t w)
 walk-term (and {s = s} t u) w = node (above s .2) (simp append-assoc (walk-term t (walk-term u w)))
+walk-term (or {s = s} t u) w = node (above s .3) (simp append-assoc (walk-term t (walk-term u w)))
 
 pub walk-whole : {s : Sort} (t : Term s) {b : List ℕ} → b ≡ enc t → Walks b (items t)
 walk-whole t e = rw (← append-nil (items t), e, ← append-nil (enc t)) (walk-term t walked)

@@ -5,7 +5,7 @@ use mathlib.Core.List.{List, [], _∷_, _++_}
 use native.Mathlib.Omega.{arith}
 use lib.ListN.{length, replicate}
 use borrow.Author.Tests.{lt-ltb}
-use Rattle.ptacl.specs.Term.{target, policy, Policy, deny, allow, not, and}
+use Rattle.ptacl.specs.Term.{target, policy, Policy, atom, deny, allow, targeted, not, and, or}
 use Rattle.files.specs.Encoding.{enc, depth, framed, policyFile}
 use Rattle.files.specs.Refusal.{accepted, refused, unframed}
 use Rattle.files.specs.Prefix.{spell, below, body, scan}
@@ -54,9 +54,23 @@ pub policy-due : dueAt (1 ∷ 0 ∷ 7 ∷ 0x22 ∷ 0x10 ∷ 0 ∷ 1 ∷ 0 ∷ 1 
 unfolding dueBehind byteAt
 policy-due = refl
 
-pub no-tag : readPolicy (1 ∷ 0 ∷ 2 ∷ 0x22 ∷ 0x14 ∷ []) ≡ refused 5 4
+pub no-tag : readPolicy (1 ∷ 0 ∷ 2 ∷ 0x22 ∷ 0x15 ∷ []) ≡ refused 5 4
 unfolding readPolicy unframed scan body below headAt byteAt pairAt
 no-tag = refl
+
+-- document 02, C-13: an or of each sort is read, and is a slip where the other sort is due
+pub or-read : readPolicy (1 ∷ 0 ∷ 15 ∷ 0x26 ∷ 0x22 ∷ 0x14 ∷ 0x10 ∷ 0 ∷ 1 ∷ 0 ∷ 2 ∷ 0x10 ∷ 0 ∷ 2 ∷ 0 ∷ 1 ∷ 0x21 ∷ 0x20 ∷ [])
+    ≡ accepted (or (targeted (or (atom 1 2) (atom 2 1)) allow) deny)
+unfolding readPolicy unframed scan body below headAt byteAt pairAt
+or-read = refl
+
+pub or-slipped : readPolicy (1 ∷ 0 ∷ 1 ∷ 0x14 ∷ []) ≡ refused 15 3
+unfolding readPolicy unframed scan body below headAt byteAt pairAt
+or-slipped = refl
+
+pub or-for-a-target : readPolicy (1 ∷ 0 ∷ 2 ∷ 0x22 ∷ 0x26 ∷ []) ≡ refused 15 4
+unfolding readPolicy unframed scan body below headAt byteAt pairAt
+or-for-a-target = refl
 
 -- 31 policy nots over allow are read, 32 are refused 6 at 35
 abbrev nots : ℕ → Policy → Policy

@@ -35,8 +35,8 @@ firstTag target = 0x10
 firstTag policy = 0x20
 
 abbrev pub lastTag : Sort → ℕ
-lastTag target = 0x13
-lastTag policy = 0x25
+lastTag target = 0x14
+lastTag policy = 0x26
 
 abbrev pub byteOf : {s : Sort} → Byte s → ByteC
 byteOf (tag n) = ByteC.Tag (shapeName (shape n))

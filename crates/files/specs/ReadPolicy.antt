@@ -5,15 +5,15 @@ use mathlib.Core.List.{List, [], _∷_}
 use lib.Dec.{eqb, ltb}
 use lib.ListN.{length, getD}
 use Rattle.ptacl.specs.Request.{Pair}
-use Rattle.ptacl.specs.Term.{Sort, target, policy, Policy, Node, anAtom, aDeny, anAllow, aTargeted, aNot, aDefault, anAnd, tagOf}
+use Rattle.ptacl.specs.Term.{Sort, target, policy, Policy, Node, anAtom, aDeny, anAllow, aTargeted, aNot, aDefault, anAnd, anOr, tagOf}
 use Rattle.files.specs.Encoding.{bytes}
 use Rattle.files.specs.Refusal.{Read, accepted, refused, dec16, unframed}
 use Rattle.files.specs.Prefix.{Head, node, stop, Scan, done, fault, Reader, scan}
 
 -- the nodes of a sort
 abbrev pub nodesOf : (s : Sort) → List (Node s)
-nodesOf target = anAtom ∷ aNot target ∷ aDefault target ∷ anAnd target ∷ []
-nodesOf policy = aDeny ∷ anAllow ∷ aTargeted ∷ aNot policy ∷ aDefault policy ∷ anAnd policy ∷ []
+nodesOf target = anAtom ∷ aNot target ∷ aDefault target ∷ anAnd target ∷ anOr target ∷ []
+nodesOf policy = aDeny ∷ anAllow ∷ aTargeted ∷ aNot policy ∷ aDefault policy ∷ anAnd policy ∷ anOr policy ∷ []
 
 abbrev pub otherSort : Sort → Sort
 otherSort target = policy

@@ -61,7 +61,8 @@ fn target_byte(b: u8) -> Byte
         tags::TARGET_NOT => Byte::Tag(Shape::One),
         tags::TARGET_OPTIONAL => Byte::Tag(Shape::One),
         tags::TARGET_AND => Byte::Tag(Shape::Two(Sort::Target)),
-        tags::DENY..=tags::POLICY_AND => Byte::Other,
+        tags::TARGET_OR => Byte::Tag(Shape::Two(Sort::Target)),
+        tags::DENY..=tags::POLICY_OR => Byte::Other,
         _ => Byte::Unknown,
     }
 }
@@ -76,7 +77,8 @@ fn policy_byte(b: u8) -> Byte
         tags::POLICY_NOT => Byte::Tag(Shape::One),
         tags::DENY_BY_DEFAULT => Byte::Tag(Shape::One),
         tags::POLICY_AND => Byte::Tag(Shape::Two(Sort::Policy)),
-        tags::TARGET_ATOM..=tags::TARGET_AND => Byte::Other,
+        tags::POLICY_OR => Byte::Tag(Shape::Two(Sort::Policy)),
+        tags::TARGET_ATOM..=tags::TARGET_OR => Byte::Other,
         _ => Byte::Unknown,
     }
 }
