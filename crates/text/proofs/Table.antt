@@ -23,7 +23,7 @@ use Rattle.text.proofs.Runs.{same-true}
 abbrev rowRight : (s : Sort) → Node s → Bool
 rowRight s n =
     same (rowOf (tagOf n)) (word n)
-    && (ltb 15 (tagOf n) && (ltb (begins (tagOf n)) 46
+    && (ltb 15 (tagOf n) && (ltb (begins (tagOf n)) 56
     && (ltb (begins (tagOf n)) (closes (begins (tagOf n))) && ltb (closes (begins (tagOf n))) (begins (tagOf n) + 6))))
 
 -- the row of a node's tag holds its word
@@ -33,7 +33,7 @@ row-word n = same-true (rowOf (tagOf n)) (word n) (and-left _ (at-node rowRight 
 -- where it lies
 record Row (t : ℕ) : Type 0 where
   low : 15 < t
-  high : begins t < 46
+  high : begins t < 56
   order : begins t < closes (begins t)
   short : closes (begins t) < begins t + 6
 
@@ -43,10 +43,10 @@ module _ {t : ℕ} (g : IsTag t) where
       let n = g .its in
       let a = and-right (same (rowOf (tagOf n)) (word n)) (at-node rowRight refl n) in
       let b = and-right (ltb 15 (tagOf n)) a in
-      let c = and-right (ltb (begins (tagOf n)) 46) b in
+      let c = and-right (ltb (begins (tagOf n)) 56) b in
       rw (g .is) (record {
         low = ltb-true 15 (tagOf n) (and-left _ a);
-        high = ltb-true (begins (tagOf n)) 46 (and-left _ b);
+        high = ltb-true (begins (tagOf n)) 56 (and-left _ b);
         order = ltb-true (begins (tagOf n)) (closes (begins (tagOf n))) (and-left _ c);
         short = ltb-true (closes (begins (tagOf n))) (begins (tagOf n) + 6) (and-right (ltb (begins (tagOf n)) (closes (begins (tagOf n)))) c);
       })
@@ -59,7 +59,7 @@ module _ {t : ℕ} (g : IsTag t) where
 
   -- as the code has it, from a to z
   module _ {a : ℕ} (e : a ≡ begins t) where
-    pub row-begins : a ≤ 45
+    pub row-begins : a ≤ 55
     row-begins = omega (arith, row .high)
 
     module _ {z : ℕ} (f : z ≡ closes a) where
@@ -69,7 +69,7 @@ module _ {t : ℕ} (g : IsTag t) where
       pub row-order : a ≤ z
       row-order = omega (arith, ends, row .order)
 
-      pub row-inside : z ≤ 50
+      pub row-inside : z ≤ 60
       row-inside = omega (arith, ends, row .high, row .short)
 
       pub row-lent : take (z - a) (drop a table) ≡ rowOf t
@@ -94,8 +94,8 @@ pub record Untried (s : Sort) (w : List ℕ) (t : ℕ) : Type 0 where
 
 pub untried : (s : Sort) (w : List ℕ) → Untried s w (firstTag s)
 unfolding wordAt
-untried target w = record { nodes = nodesOf target; tags = counted refl (counted refl (counted refl (counted refl no-more))); last = refl; rest = refl }
-untried policy w = record { nodes = nodesOf policy; tags = counted refl (counted refl (counted refl (counted refl (counted refl (counted refl no-more))))); last = refl; rest = refl }
+untried target w = record { nodes = nodesOf target; tags = counted refl (counted refl (counted refl (counted refl (counted refl no-more)))); last = refl; rest = refl }
+untried policy w = record { nodes = nodesOf policy; tags = counted refl (counted refl (counted refl (counted refl (counted refl (counted refl (counted refl no-more)))))); last = refl; rest = refl }
 
 pub last-small : (s : Sort) → lastTag s < 255
 last-small target = omega arith

@@ -8,8 +8,9 @@ use lib.Dec.{ltb}
 use lib.ListN.{length, drop, length-drop, length-append}
 use borrow.Author.Tests.{ltb-true, ltb-false, lt-ltb}
 use Rattle.ptacl.specs.Request.{Pair}
-use Rattle.ptacl.specs.Term.{Sort, target, policy, Node, anAtom, aDeny, anAllow, aTargeted, aNot, aDefault, anAnd, shape}
+use Rattle.ptacl.specs.Term.{Sort, target, policy, Node, anAtom, aDeny, anAllow, aTargeted, aNot, aDefault, anAnd, anOr, shape}
 use Rattle.ptacl.proofs.Bools.{either}
+use Rattle.ptacl.proofs.Finite.{at-node}
 use Rattle.files.specs.Encoding.{InRange}
 use Rattle.files.specs.Refusal.{Read, accepted, refused}
 use Rattle.files.specs.Places.{At}
@@ -27,35 +28,29 @@ use Rattle.text.proofs.Runs.{plain, run-plain, run-at, same-true, past-
 use Rattle.text.proofs.Decimal.{digits-plain, digits-short, value-decimal, decimal-number, number-told}
 pub use Rattle.text.proofs.Runs.{Faulty}
 
--- ---- the ten words
-
-record Word {s : Sort} (n : Node s) : Type 0 where
-  known : wordAt s (word n) ≡ tag n
-  whole : plain (word n) ≡ true
-  short : length (word n) ≤ 5
-
-is-word : {s : Sort} (n : Node s) → Word n
-unfolding wordAt
-is-word anAtom = record { known = refl; whole = refl; short = omega arith }
-is-word aDeny = record { known = refl; whole = refl; short = omega arith }
-is-word anAllow = record { known = refl; whole = refl; short = omega arith }
-is-word aTargeted = record { known = refl; whole = refl; short = omega arith }
-is-word (aNot target) = record { known = refl; whole = refl; short = omega arith }
-is-word (aNot policy) = record { known = refl; whole = refl; short = omega arith }
-is-word (aDefault target) = record { known = refl; whole = refl; short = omega arith }
-is-word (aDefault policy) = record { known = refl; whole = refl; short = omega arith }
-is-word (anAnd target) = record { known = refl; whole = refl; short = omega arith }
-is-word (anAnd policy) = record { known = refl; whole = refl; short = omega arith }
+-- ---- the twelve words
 
 -- each is known, no byte of it ends a run, and it has at most five
 pub word-known : {s : Sort} (n : Node s) → wordAt s (word n) ≡ tag n
-word-known n = is-word n .known
+unfolding wordAt
+word-known anAtom = refl
+word-known aDeny = refl
+word-known anAllow = refl
+word-known aTargeted = refl
+word-known (aNot target) = refl
+word-known (aNot policy) = refl
+word-known (aDefault target) = refl
+word-known (aDefault policy) = refl
+word-known (anAnd target) = refl
+word-known (anAnd policy) = refl
+word-known (anOr target) = refl
+word-known (anOr policy) = refl
 
 pub word-plain : {s : Sort} (n : Node s) → plain (word n) ≡ true
-word-plain n = is-word n .whole
+word-plain n = at-node (λ s n. plain (word n)) refl n
 
 pub word-short : {s : Sort} (n : Node s) → length (word n) ≤ 5
-word-short n = is-word n .short
+word-short n = omega (arith, ltb-true (length (word n)) 6 (at-node (λ s n. ltb (length (word n)) 6) refl n))
 
 -- a run that is known is the node's word
 pub word-found : {s : Sort} (w : List ℕ) (n : Node s) → wordAt s w ≡ tag n → w ≡ word n

@@ -1,10 +1,10 @@
--- Document 02's line of A, and edges of C-11's refusals, computed.
+-- Document 02's line of A, a line of both ors, and edges of C-11's refusals, computed.
 use Prim.Native.Nat.{ℕ, zero, suc}
 use Prim.Native.String.{String}
 use mathlib.Core.Path.{_≡_, refl}
 use mathlib.Core.List.{List, [], _∷_, _++_, map}
-use Rattle.ptacl.specs.Term.{Policy, atom, allow, targeted, not, and}
-use Rattle.ptacl.proofs.Worked.{A}
+use Rattle.ptacl.specs.Term.{Policy, atom, allow, targeted, not, and, or}
+use Rattle.ptacl.proofs.Worked.{A, G}
 use Rattle.files.specs.Refusal.{accepted, refused}
 use Rattle.files.specs.Prefix.{spell, below, body, scan}
 use Rattle.text.specs.Words.{letters}
@@ -21,6 +21,18 @@ A-written = refl
 pub A-read : readText A-line ≡ accepted A
 unfolding readText scan body below headAt wordAt past isNumber numberAt pairAt digits
 A-read = refl
+
+-- an or of policies, and one of targets
+abbrev pub or-line : List ℕ
+or-line = letters "por pone pdbd ptar tor tatom 1 2 tatom 2 1 pone\n"
+
+pub or-written : line (or allow G) ≡ or-line
+unfolding line spell ended digits
+or-written = refl
+
+pub or-read : readText or-line ≡ accepted (or allow G)
+unfolding readText scan body below headAt wordAt past isNumber numberAt pairAt digits
+or-read = refl
 
 -- the largest number, and the smallest
 pub numbers-read : readText (letters "ptar tatom 65535 0 pone\n") ≡ accepted (targeted (atom 65535 0) allow)
@@ -41,6 +53,8 @@ refusals =
     ∷ (" pone\n", 51, 0)
     ∷ ("pnot  pone\n", 51, 5)
     ∷ ("ptar pzero\n", 51, 5)
+    ∷ ("tor\n", 51, 0)
+    ∷ ("ptar por\n", 51, 5)
     ∷ ("pon\n", 51, 0)
     ∷ ("pones\n", 51, 0)
     ∷ ("Pone\n", 51, 0)

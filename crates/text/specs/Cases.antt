@@ -47,13 +47,13 @@ stepOf (refused number place) = Step.Off number place
 -- ---- the table of words
 
 abbrev pub table : List ℕ
-table = letters "tatomtnot topt tand pzeropone ptar pnot pdbd pand "
+table = letters "tatomtnot topt tand tor  pzeropone ptar pnot pdbd pand por  "
 
 abbrev pub begins : ℕ → ℕ
-begins tag = cond (ltb tag 0x20) (5 * (tag - 0x10)) (20 + 5 * (tag - 0x20))
+begins tag = cond (ltb tag 0x20) (5 * (tag - 0x10)) (25 + 5 * (tag - 0x20))
 
 abbrev pub closes : ℕ → ℕ
-closes begin = cond (eqb (getD table (begin + 4) 0) 32) (begin + 4) (begin + 5)
+closes begin = cond (eqb (getD table (begin + 3) 0) 32) (begin + 3) (cond (eqb (getD table (begin + 4) 0) 32) (begin + 4) (begin + 5))
 
 abbrev pub rowOf : ℕ → List ℕ
 rowOf tag = take (closes (begins tag) - begins tag) (drop (begins tag) table)

@@ -1,4 +1,4 @@
-// The ten words, and the runs of bytes that are compared with them.
+// The twelve words, and the runs of bytes that are compared with them.
 ghost use mathlib.Core.Path.{_≡_};
 ghost use Prim.Native.Nat.{_+_, _≤_};
 ghost use lib.ListN.{length};
@@ -15,8 +15,8 @@ use files::policy::Sort;
 use files::tags;
 use files::write;
 
-// In the order of the tags, five bytes each: a space fills up a word of four.
-const WORDS: [u8; 50] = *b"tatomtnot topt tand pzeropone ptar pnot pdbd pand ";
+// In the order of the tags, five bytes each: spaces fill up a shorter word.
+const WORDS: [u8; 60] = *b"tatomtnot topt tand tor  pzeropone ptar pnot pdbd pand por  ";
 
 // Where the word of a tag begins in the table.
 fn begin(tag: u8) -> usize
@@ -26,14 +26,17 @@ fn begin(tag: u8) -> usize
     if tag < tags::DENY {
         return 5 * (tag - tags::TARGET_ATOM) as usize;
     }
-    20 + 5 * (tag - tags::DENY) as usize
+    25 + 5 * (tag - tags::DENY) as usize
 }
 
 // Where the word that begins there ends.
 fn close(begin: usize) -> usize
-    requires { ⌜ begin ≤ 45 ⌝ }
+    requires { ⌜ begin ≤ 55 ⌝ }
     ensures { λ r. ⌜ r ≡ closes begin ⌝ }
 {
+    if WORDS[begin + 3] == 32 {
+        return begin + 3;
+    }
     if WORDS[begin + 4] == 32 {
         return begin + 4;
     }
@@ -99,8 +102,8 @@ fn last_tag(sort: Sort) -> u8
     ensures { λ r. ⌜ r ≡ lastTag (sortOf sort) ⌝ }
 {
     match sort {
-        Sort::Target => tags::TARGET_AND,
-        Sort::Policy => tags::POLICY_AND,
+        Sort::Target => tags::TARGET_OR,
+        Sort::Policy => tags::POLICY_OR,
     }
 }
 

@@ -1,4 +1,4 @@
--- `close` looks whether a space fills up the row.
+-- `close` looks whether spaces fill up the row.
 use borrow.Author.Needs.{needs}
 use borrow.Author.Tests.{eq-eqb, ne-eqb}
 use Rattle.text.proofs.words.close.Statement.{statement}
@@ -13,4 +13,8 @@ close-spec =
     (λ c. search needs)
     (λ c. rw (eq-eqb _ 32 (c .if1 .taken)))
     (λ c. search needs)
-    (λ c. rw (ne-eqb _ 32 (c .if1 .left))))
+    (λ c. search needs)
+    (λ c. search needs)
+    (λ c. rw (ne-eqb _ 32 (c .before .if1 .left), eq-eqb _ 32 (c .if2 .taken)))
+    (λ c. search needs)
+    (λ c. rw (ne-eqb _ 32 (c .before .if1 .left), ne-eqb _ 32 (c .if2 .left))))
