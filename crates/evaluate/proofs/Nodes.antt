@@ -1,14 +1,14 @@
 -- For any evaluator that promises `Evaluated`: what the answers for a node's parts make of the whole, one law a node.
 use Prim.Native.Nat.{ℕ, _+_, _-_, _/_, _%_, _<_}
-use mathlib.Core.Path.{_≡_, refl, ap, ap₂, _∙_}
+use mathlib.Core.Path.{_≡_, refl, sym, ap, ap₂, _∙_}
 use mathlib.Core.List.{List}
 use native.Mathlib.Nat.{add-assoc}
 use native.Mathlib.Omega.{arith}
 use lib.ListN.{getD}
-use Rattle.ptacl.specs.Value.{Value, v1, v0, notV, defaultV, andV}
+use Rattle.ptacl.specs.Value.{Value, v1, v0, notV, defaultV, andV, orV}
 use Rattle.ptacl.specs.Values.{single, each, each2, under, code, setOf}
 use Rattle.ptacl.specs.Request.{Request}
-use Rattle.ptacl.specs.Term.{Sort, target, policy, Term, anAtom, aDeny, anAllow, aTargeted, aNot, aDefault, anAnd, tagOf}
+use Rattle.ptacl.specs.Term.{Sort, target, policy, Term, Node, anAtom, aDeny, anAllow, aTargeted, aNot, aDefault, anAnd, anOr, tagOf, two, shape}
 use Rattle.ptacl.specs.Meaning.{Meaning, lift, lift2, atomAt, eval}
 use Rattle.ptacl.specs.Pairs.{packed, unpacked}
 use Rattle.ptacl.proofs.Codes.{code-set}
@@ -82,9 +82,20 @@ module _ {b : List ℕ} {i : ℕ} {q : Request} where
     pub is-default : getD b i 0 ≡ tagOf (aDefault s) → Evaluated s b (i + 1) q v m → w ≡ act defaultV s v → Evaluated s b i q w m
     is-default e x f = record { value = as-node (aDefault s) _ e (acted defaultV x f); past = ends (aDefault s) e (x .past) }
 
-    pub is-and : {y : Told s} {n : ℕ} → getD b i 0 ≡ tagOf (anAnd s) → Evaluated s b (i + 1) q v m → Evaluated s b m q w n
-        → y ≡ act2 andV s v w → Evaluated s b i q y n
-    is-and e x y f = record {
-      value = as-two (anAnd s) refl _ e (x .past) (λ t u h g. f ∙ ap₂ (act2 andV s) (x .value t h) (y .value u g) ∙ act2-told andV s (eval t q) (eval u q));
-      past = ends (anAnd s) e (_, x .past, y .past);
-    }
+    -- a node over two terms of its sort that comes to an operation on what they come to
+    module _ (k : Node s) {g : Term s → Term s → Term s} (two-terms : shape k ≡ two s g) (f : Value → Value → Value)
+        (comes : (t u : Term s) → eval (g t u) q ≡ lift2 f s (eval t q) (eval u q)) where
+      joined : {y : Told s} {n : ℕ} → getD b i 0 ≡ tagOf k → Evaluated s b (i + 1) q v m → Evaluated s b m q w n → y ≡ act2 f s v w → Evaluated s b i q y n
+      joined e x y h = record {
+        value = as-two k two-terms _ e (x .past) (λ t u a c.
+            h ∙ ap₂ (act2 f s) (x .value t a) (y .value u c) ∙ act2-told f s (eval t q) (eval u q) ∙ ap (told s) (sym (comes t u)));
+        past = ends k e (rw two-terms (_, x .past, y .past));
+      }
+
+    pub is-and : {y : Told s} {n : ℕ} → getD b i 0 ≡ tagOf (anAnd s) → Evaluated s b (i + 1) q v m → Evaluated s b m q w n → y ≡ act2 andV s v w
+        → Evaluated s b i q y n
+    is-and = joined (anAnd s) refl andV (λ t u. refl)
+
+    pub is-or : {y : Told s} {n : ℕ} → getD b i 0 ≡ tagOf (anOr s) → Evaluated s b (i + 1) q v m → Evaluated s b m q w n → y ≡ act2 orV s v w
+        → Evaluated s b i q y n
+    is-or = joined (anOr s) refl orV (λ t u. refl)

@@ -4,10 +4,10 @@ use mathlib.Core.Path.{_≡_, refl, sym, ap, ap₂, subst, _∙_}
 use mathlib.Core.List.{List}
 use native.Mathlib.Omega.{arith}
 use lib.ListN.{getD}
-use Rattle.ptacl.specs.Value.{Value, notV, defaultV, andV}
+use Rattle.ptacl.specs.Value.{Value, notV, defaultV, andV, orV}
 use Rattle.ptacl.specs.Values.{single, each, each2, under as below, code, setOf}
 use Rattle.ptacl.specs.Request.{Request}
-use Rattle.ptacl.specs.Term.{Sort, target, policy, Node, anAtom, aDeny, anAllow, aTargeted, aNot, aDefault, anAnd, tagOf, shape}
+use Rattle.ptacl.specs.Term.{Sort, target, policy, Node, anAtom, aDeny, anAllow, aTargeted, aNot, aDefault, anAnd, anOr, tagOf, shape}
 use Rattle.ptacl.specs.Meaning.{atomAt}
 use Rattle.ptacl.proofs.Codes.{code-set, of-single, of-singles}
 use Rattle.files.specs.Refusal.{dec16}
@@ -21,7 +21,7 @@ use Rattle.files.specs.declared.policy.Scanned.{Scanned}
 use Rattle.files.proofs.PolicySeen.{never, Tagged, under, seen-at, seen-two-at, head-tagged, pair-done}
 use Rattle.evaluate.specs.Evaluated.{Told}
 use Rattle.evaluate.specs.Walked.{codeOf, Comes, Walked, Numbered, LeafSet, OneSet, TwoSet}
-use Rattle.evaluate.proofs.Nodes.{act, act2, is-atom, is-deny, is-allow, is-targeted, is-not, is-default, is-and}
+use Rattle.evaluate.proofs.Nodes.{act, act2, is-atom, is-deny, is-allow, is-targeted, is-not, is-default, is-and, is-or}
 
 -- an operation on the code of an answer
 acts : (f : Value → Value) → ((v : Value) → code (each f (single v)) ≡ code (single (f v))) → (s : Sort) (v : Told s) {c : ℕ} → c ≡ codeOf s v
@@ -43,12 +43,21 @@ module _ (b : List ℕ) (i : ℕ) (q : Request) where
   Makes s ShapeC.One = (c d m : ℕ) → Comes s b (i + 1) q c m → OneSet (getD b i 0) c d → Comes s b i q d m
   Makes s (ShapeC.Two r) = (c d w m k : ℕ) → Comes (sortOf r) b (i + 1) q c m → Comes s b m q d k → TwoSet (getD b i 0) c d w → Comes s b i q w k
 
-  and-makes : {s : Sort} → getD b i 0 ≡ tagOf (anAnd s) → (c d w m k : ℕ) → Comes s b (i + 1) q c m → Comes s b m q d k → TwoSet (getD b i 0) c d w
-      → Comes s b i q w k
+  abbrev Joined : Sort → Type 0
+  Joined s = (c d w m k : ℕ) → Comes s b (i + 1) q c m → Comes s b m q d k → TwoSet (getD b i 0) c d w → Comes s b i q w k
+
+  and-makes : {s : Sort} → getD b i 0 ≡ tagOf (anAnd s) → Joined s
   and-makes {s} e c d w m k x y l = record {
     told = _;
     evaluated = is-and e (x .evaluated) (y .evaluated) refl;
     its = l .and s e ∙ acts2 andV (of-singles andV refl) s (x .told) (y .told) (x .its) (y .its);
+  }
+
+  or-makes : {s : Sort} → getD b i 0 ≡ tagOf (anOr s) → Joined s
+  or-makes {s} e c d w m k x y l = record {
+    told = _;
+    evaluated = is-or e (x .evaluated) (y .evaluated) refl;
+    its = l .or s e ∙ acts2 orV (of-singles orV refl) s (x .told) (y .told) (x .its) (y .its);
   }
 
   makes : {s : Sort} (n : Node s) → getD b i 0 ≡ tagOf n → Makes s (shapeName (shape n))
@@ -72,6 +81,8 @@ module _ (b : List ℕ) (i : ℕ) (q : Request) where
   }
   makes (anAnd target) e = and-makes e
   makes (anAnd policy) e = and-makes e
+  makes (anOr target) e = or-makes e
+  makes (anOr policy) e = or-makes e
 
   made : {s : Sort} {g : ShapeC} {next : ℕ} → Tagged b s i g next → Makes s g
   made {s} t = subst (Makes s) (t .so) (makes (t .its) (t .byte))

@@ -2,11 +2,11 @@
 use Prim.Native.Nat.{ℕ, _+_, _/_, _%_, _<_}
 use mathlib.Core.Path.{_≡_}
 use mathlib.Core.List.{List}
-use Rattle.ptacl.specs.Value.{v1, v0, notV, defaultV, andV}
+use Rattle.ptacl.specs.Value.{v1, v0, notV, defaultV, andV, orV}
 use Rattle.ptacl.specs.Values.{single, each, each2, code, setOf}
 use Rattle.ptacl.specs.Cases.{Targeted}
 use Rattle.ptacl.specs.Request.{Request}
-use Rattle.ptacl.specs.Term.{Sort, target, policy, Policy, aDeny, anAllow, aTargeted, aNot, aDefault, anAnd, tagOf}
+use Rattle.ptacl.specs.Term.{Sort, target, policy, Policy, aDeny, anAllow, aTargeted, aNot, aDefault, anAnd, anOr, tagOf}
 use Rattle.ptacl.specs.Meaning.{atomAt, eval}
 use Rattle.ptacl.specs.declared.DecisionSet.{DecisionSet}
 use Rattle.files.specs.Encoding.{IsPolicy}
@@ -53,6 +53,7 @@ pub record OneSet (tag below own : ℕ) : Type 0 where
 pub record TwoSet (tag first second own : ℕ) : Type 0 where
   pub targeted : tag ≡ tagOf aTargeted → Targeted first second own
   pub and : (s : Sort) → tag ≡ tagOf (anAnd s) → own ≡ code (each2 andV (setOf first) (setOf second))
+  pub or : (s : Sort) → tag ≡ tagOf (anOr s) → own ≡ code (each2 orV (setOf first) (setOf second))
   pub small : own < 8
 
 -- the answer of reading a file, and the set that its policy comes to

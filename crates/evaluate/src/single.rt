@@ -54,10 +54,11 @@ fn one_set(tag: u8, below: DecisionSet) -> DecisionSet
 fn two_set(tag: u8, first: DecisionSet, second: DecisionSet) -> DecisionSet
     ensures { λ r. ⌜ TwoSet tag (first .code) (second .code) (r .code) ⌝ }
 {
-    if tag == tags::TARGETED {
-        second.targeted(first)
-    } else {
-        first.and(second)
+    match tag {
+        tags::TARGETED => second.targeted(first),
+        tags::TARGET_AND => first.and(second),
+        tags::POLICY_AND => first.and(second),
+        _ => first.or(second),
     }
 }
 

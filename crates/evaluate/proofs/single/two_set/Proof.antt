@@ -1,31 +1,66 @@
 -- `two_set` meets its contract: no tag is that of two nodes.
 use Prim.Native.Nat.{ℕ}
-use mathlib.Core.Path.{_≡_}
+use mathlib.Core.Path.{_≡_, sym, _∙_}
 use native.Mathlib.Omega.{arith}
-use Rattle.ptacl.specs.Value.{andV}
-use Rattle.ptacl.specs.Values.{each2, setOf}
-use Rattle.ptacl.specs.Term.{Sort, target, policy, aTargeted, anAnd, tagOf}
+use Rattle.ptacl.specs.Value.{andV, orV}
+use Rattle.ptacl.specs.Values.{each2, code, setOf}
+use Rattle.ptacl.specs.Term.{Sort, target, policy, aTargeted, anAnd, anOr, tagOf}
 use Rattle.ptacl.proofs.Codes.{code-small}
+use Rattle.evaluate.specs.Walked.{TwoSet}
 use Rattle.evaluate.proofs.single.two_set.Statement.{statement}
 use Rattle.evaluate.proofs.single.two_set.Tie as tie
 
-apart : {t : ℕ} (s : Sort) → t ≡ tagOf aTargeted → t ≡ tagOf (anAnd s) → ⊥
-apart target e f = omega arith
-apart policy e f = omega arith
+targeted-apart : (s : Sort) → (tagOf aTargeted ≡ tagOf (anAnd s) → ⊥) × (tagOf aTargeted ≡ tagOf (anOr s) → ⊥)
+targeted-apart target = (λ e. omega arith, λ e. omega arith)
+targeted-apart policy = (λ e. omega arith, λ e. omega arith)
+
+joined-apart : (r s : Sort) → tagOf (anAnd r) ≡ tagOf (anOr s) → ⊥
+joined-apart target target e = omega arith
+joined-apart target policy e = omega arith
+joined-apart policy target e = omega arith
+joined-apart policy policy e = omega arith
+
+of-and : (r : Sort) {tag first second own : ℕ} → tag ≡ tagOf (anAnd r) → own ≡ code (each2 andV (setOf first) (setOf second))
+    → TwoSet tag first second own
+of-and r {first} {second} e h = record {
+  targeted = λ g. absurd (targeted-apart r .0 (sym g ∙ e));
+  and = λ s g. h;
+  or = λ s g. absurd (joined-apart r s (sym e ∙ g));
+  small = code-small (each2 andV (setOf first) (setOf second)) h;
+}
+
+no-and : {tag : ℕ} → (tag ≡ tagOf (anAnd target) → ⊥) → (tag ≡ tagOf (anAnd policy) → ⊥) → (s : Sort) → tag ≡ tagOf (anAnd s) → ⊥
+no-and f g target = f
+no-and f g policy = g
 
 returns : tie.Need-returns
 returns c = record {
   targeted = λ e. c .targeted .ensures;
-  and = λ s e. absurd (apart s (c .before .if1 .taken) e);
+  and = λ s e. absurd (targeted-apart s .0 (sym (c .before .match .keys1) ∙ e));
+  or = λ s e. absurd (targeted-apart s .1 (sym (c .before .match .keys1) ∙ e));
   small = c .targeted .ensures .small;
 }
 
-returns-2 : tie.Need-returns-2
-returns-2 c = record {
-  targeted = λ e. absurd (c .before .if1 .left e);
-  and = λ s e. c .and .ensures;
-  small = code-small (each2 andV (setOf (c .before .before .args .first .code)) (setOf (c .before .before .args .second .code))) (c .and .ensures);
-}
+returns-4 : tie.Need-returns-4
+returns-4 c =
+    let n = c .before .match .rest in
+    let a = c .before .before .args in
+    record {
+      targeted = λ e. absurd (n .0 .0 .1 e);
+      and = λ s e. absurd (no-and (n .0 .1) (n .1) s e);
+      or = λ s e. c .or .ensures;
+      small = code-small (each2 orV (setOf (a .first .code)) (setOf (a .second .code))) (c .or .ensures);
+    }
 
 pub two-set-spec : {M : Type 1} → statement M
-two-set-spec = tie.close (tie.spec (λ c κs. tt) (λ c κs. tt) returns returns-2)
+two-set-spec =
+    tie.close
+    (tie.spec
+    (λ c κs. tt)
+    (λ c κs. tt)
+    (λ c κs. tt)
+    (λ c κs. tt)
+    returns
+    (λ c. of-and target (c .before .match .keys2) (c .and .ensures))
+    (λ c. of-and policy (c .before .match .keys3) (c .and2 .ensures))
+    returns-4)
