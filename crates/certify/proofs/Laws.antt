@@ -1,23 +1,24 @@
 -- What the answers of the parts make of the whole: one law for each node, and for each way to a certificate.
 use Prim.Native.Nat.{ℕ, zero, suc, _+_, _-_, _≤_, _<_}
 use mathlib.Core.Path.{_≡_, refl, sym, ap, ap₂, subst, _∙_}
-use mathlib.Core.Bool.{Bool, true, false, cond}
+use mathlib.Core.Bool.{Bool, true, false, _&&_, _||_, cond}
 use mathlib.Core.List.{List}
 use native.Mathlib.Omega.{arith}
 use lib.Dec.{eqb}
 use lib.ListN.{length, getD, take, drop, length-append, length-drop}
 use lib.Seq.{take-at}
-use borrow.Author.Tests.{eq-eqb, ne-eqb}
-use Rattle.ptacl.specs.Term.{Sort, target, policy, Term, Policy, deny, allow, targeted, not, default, and, without}
-use Rattle.ptacl.specs.Term.{Node, aTargeted, aNot, aDefault, anAnd, tagOf, leaf, one, two, shape}
-use Rattle.ptacl.specs.Rules.{allows, never, rule2, rule3, rule4, base, given, certificate, Certificate}
+use borrow.Author.Tests.{eq-eqb, ne-eqb, eqb-true, eqb-false}
+use Rattle.ptacl.specs.Term.{Sort, target, policy, Term, Policy, deny, allow, targeted, not, default, and, or, without}
+use Rattle.ptacl.specs.Term.{Node, aTargeted, aNot, aDefault, anAnd, anOr, tagOf, leaf, one, two, shape}
+use Rattle.ptacl.specs.Rules.{Effect, allows, denies, never, rule2, rule3, rule4, base, given, certificate, Certificate}
+use Rattle.ptacl.proofs.Bools.{either}
 use Rattle.ptacl.proofs.Cert.{certificate-is}
 use Rattle.files.specs.Encoding.{enc}
 use Rattle.files.specs.Prefix.{spell}
 use Rattle.files.specs.Places.{At, Has}
 use Rattle.files.proofs.Places.{head}
-use Rattle.files.proofs.View.{as-node, as-two, Ends, EndsBy, ends, parts, has-room, has-left, Inner, a-not, a-default, an-and}
-use Rattle.certify.specs.Judged.{Behind, Judged, PolicyBytes, Lacks, NodeRule}
+use Rattle.files.proofs.View.{as-node, as-two, Ends, EndsBy, ends, parts, has-room, has-left, Joins, an-and, an-or, has-both}
+use Rattle.certify.specs.Judged.{Behind, Judged, PolicyBytes, Lacks, NodeRule, JoinRule}
 
 -- what a function that is given t nodes asks of a call below it, and of one for the second of two terms
 module _ {s : Sort} {b : List ℕ} {i left t : ℕ} (g : (left ≡ t) × Has s b i left) where
@@ -28,15 +29,30 @@ module _ {s : Sort} {b : List ℕ} {i left t : ℕ} (g : (left ≡ t) × Has s b
       → Ends r b (i + 1) m → (left - 1 < t) × Has s b m (left - 1)
   second k x e d = call ((rw x at (parts k e (g .1))) .1 _ d)
 
+  pub first-joined : Joins s (getD b i 0) → (left - 1 < t) × Has s b (i + 1) (left - 1)
+  first-joined j = call (has-both (g .1) j .0)
+
+  pub second-joined : {m : ℕ} → Joins s (getD b i 0) → Ends s b (i + 1) m → (left - 1 < t) × Has s b m (left - 1)
+  second-joined j d = call (has-both (g .1) j .1 _ d)
+
+-- the bytes of and and or stand side by side
+pub joins-between : {k : ℕ} → tagOf (anAnd policy) ≤ k → k ≤ tagOf (anOr policy) → Joins policy k
+joins-between {k} l h = either (eqb k (tagOf (anAnd policy)))
+    (λ e. an-and (eqb-true k (tagOf (anAnd policy)) e))
+    (λ e. an-or (let d : (k ≡ tagOf (anAnd policy) → ⊥) = eqb-false k (tagOf (anAnd policy)) e in omega arith))
+
+pub joins-inside : {k : ℕ} → Joins policy k → (tagOf (anAnd policy) ≤ k) × (k ≤ tagOf (anOr policy))
+joins-inside (an-and e) = omega arith
+joins-inside (an-or e) = omega arith
+
 module _ {b : List ℕ} {i : ℕ} where
   -- the place behind a term
   pub behind : {s : Sort} {m : ℕ} (k : Node s) → getD b i 0 ≡ tagOf k → EndsBy b i m (shape k) → Behind s b i m
   behind k e d = record { past = ends k e d }
 
-  pub behind-one : {s : Sort} {m : ℕ} → Inner s (getD b i 0) → (getD b i 0 ≡ tagOf (anAnd s) → ⊥) → Behind s b (i + 1) m → Behind s b i m
-  behind-one {s} (a-not e) n d = behind (aNot s) e (d .past)
-  behind-one {s} (a-default e) n d = behind (aDefault s) e (d .past)
-  behind-one (an-and e) n d = absurd (n e)
+  pub behind-joined : {s : Sort} {l m : ℕ} → Joins s (getD b i 0) → Behind s b (i + 1) l → Behind s b l m → Behind s b i m
+  behind-joined {s} (an-and e) c d = behind (anAnd s) e (_, c .past, d .past)
+  behind-joined {s} (an-or e) c d = behind (anOr s) e (_, c .past, d .past)
 
   -- a judgement of a policy, by any judgement of the policies below it: one law for each shape
   module _ {A : Type 0} {judge : Policy → A} {answer : A} (k : Node policy) where
@@ -66,6 +82,20 @@ module _ {b : List ℕ} {i : ℕ} where
         right = as-two k x _ e (j .behind .past) (λ p r h g. f p r (j .right p h) (l .right r g));
         behind = behind k e (rw x (_, j .behind .past, l .behind .past));
       }
+
+-- which of the two nodes lets one side be enough
+abbrev enough : Effect → Node policy
+enough allows = anAnd policy
+enough denies = anOr policy
+
+pub never-joined : {b : List ℕ} {i l m next : ℕ} {first second answer : Bool} (e : Effect) → Joins policy (getD b i 0)
+    → Judged (λ p. never p e) b (i + 1) first l → Judged (λ p. never p e) b l second m
+    → (answer ≡ cond (eqb (getD b i 0) (tagOf (enough e))) (first || second) (first && second)) × (next ≡ m)
+    → Judged (λ p. never p e) b i answer next
+never-joined allows (an-and k) f g j = rw (j .1) (judged-two (anAnd policy) refl k f g (λ _ _ x y. rw k at (j .0) ∙ ap₂ _||_ x y))
+never-joined allows (an-or k) f g j = rw (j .1) (judged-two (anOr policy) refl k f g (λ _ _ x y. rw k at (j .0) ∙ ap₂ _&&_ x y))
+never-joined denies (an-and k) f g j = rw (j .1) (judged-two (anAnd policy) refl k f g (λ _ _ x y. rw k at (j .0) ∙ ap₂ _&&_ x y))
+never-joined denies (an-or k) f g j = rw (j .1) (judged-two (anOr policy) refl k f g (λ _ _ x y. rw k at (j .0) ∙ ap₂ _||_ x y))
 
 -- the rules 2, 3 and 4 by the nodes
 module _ {b : List ℕ} where
@@ -115,6 +145,7 @@ below (targeted t p) = 0
 below (not p) = 0
 below (default p) = given (certificate p) 5
 below (and p r) = given (certificate p) (given (certificate r) 6)
+below (or p r) = given (certificate p) (given (certificate r) 7)
 
 certificate-else : (p : Policy) → certificate p ≡ cond (eqb (base p 0) 0) (below p) (base p 0)
 certificate-else deny = base-else deny 0
@@ -123,6 +154,7 @@ certificate-else (targeted t p) = base-else (targeted t p) 0
 certificate-else (not p) = base-else (not p) 0
 certificate-else (default p) = base-else (default p) (below (default p))
 certificate-else (and p r) = base-else (and p r) (below (and p r))
+certificate-else (or p r) = base-else (or p r) (below (or p r))
 
 module _ {b : List ℕ} {i n : ℕ} where
   -- the policy's own part of the bytes
@@ -159,14 +191,17 @@ module _ {b : List ℕ} {i n : ℕ} where
           → number ≡ given body 5 → Judged certificate b i number m
       certified-default e k f = by-parts (judged-one (aDefault policy) refl e k (λ p h. f ∙ ap (λ x. given x 5) h))
 
-      pub certified-and : {first second inner number l m : ℕ} → getD b i 0 ≡ tagOf (anAnd policy)
+      pub certified-joined : {rule first second inner number l m : ℕ} → Joins policy (getD b i 0) → JoinRule (getD b i 0) rule
           → Judged certificate b (i + 1) first l → Judged certificate b l second m
-          → inner ≡ given second 6 → number ≡ given first inner → Judged certificate b i number m
-      certified-and {first = first} e k l f g =
-          by-parts (judged-two (anAnd policy) refl e k l (λ p r h w. g ∙ ap (given first) f ∙ ap₂ (λ x y. given x (given y 6)) h w))
+          → inner ≡ given second rule → number ≡ given first inner → Judged certificate b i number m
+      certified-joined {first} {second} (an-and e) x k l f g =
+          by-parts (judged-two (anAnd policy) refl e k l (λ p r h w.
+          g ∙ ap (given first) (f ∙ ap (given second) (x .and e)) ∙ ap₂ (λ x y. given x (given y 6)) h w))
+      certified-joined {first} {second} (an-or e) x k l f g =
+          by-parts (judged-two (anOr policy) refl e k l (λ p r h w.
+          g ∙ ap (given first) (f ∙ ap (given second) (x .or e)) ∙ ap₂ (λ x y. given x (given y 7)) h w))
 
-      pub certified-none : (getD b i 0 ≡ tagOf (aDefault policy) → ⊥) → (getD b i 0 ≡ tagOf (anAnd policy) → ⊥)
-          → Judged certificate b i answer n
+      pub certified-none : (getD b i 0 ≡ tagOf (aDefault policy) → ⊥) → (Joins policy (getD b i 0) → ⊥) → Judged certificate b i answer n
       unfolding enc spell
       certified-none d a = by-parts (record { right = λ p h. z ∙ go p h; behind = j .behind })
         where
@@ -176,7 +211,8 @@ module _ {b : List ℕ} {i n : ℕ} where
           go (targeted t p) h = refl
           go (not p) h = refl
           go (default p) h = absurd (d (head h))
-          go (and p r) h = absurd (a (head h))
+          go (and p r) h = absurd (a (an-and (head h)))
+          go (or p r) h = absurd (a (an-or (head h)))
 
 -- for the caller: the number is that of the policy's certificate
 pub certified : {b : List ℕ} {i n next : ℕ} {p : Policy} → Judged certificate b i n next → At b i (enc p) → Certificate p n

@@ -4,7 +4,7 @@ use mathlib.Core.Path.{_≡_}
 use mathlib.Core.Bool.{Bool, cond}
 use mathlib.Core.List.{List}
 use lib.ListN.{length}
-use Rattle.ptacl.specs.Term.{Sort, Term, Policy, policy, Node, tagOf, without}
+use Rattle.ptacl.specs.Term.{Sort, Term, Policy, policy, Node, anAnd, anOr, tagOf, without}
 use Rattle.ptacl.specs.Rules.{rule2, rule3, rule4}
 use Rattle.files.specs.Encoding.{enc}
 use Rattle.files.specs.Places.{At}
@@ -30,3 +30,8 @@ pub record Lacks (b : List ℕ) (byte : ℕ) (answer : Bool) : Type 0 where
 -- the first of the rules 2, 3 and 4 that applies to it, or 0
 pub record NodeRule (b : List ℕ) (answer : ℕ) : Type 0 where
   pub right : (p : Policy) → b ≡ enc p → answer ≡ cond (rule2 p) 2 (cond (rule3 p) 3 (cond (rule4 p) 4 0))
+
+-- the rule for a node over two certified policies
+pub record JoinRule (tag rule : ℕ) : Type 0 where
+  pub and : tag ≡ tagOf (anAnd policy) → rule ≡ 6
+  pub or : tag ≡ tagOf (anOr policy) → rule ≡ 7

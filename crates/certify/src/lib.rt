@@ -1,9 +1,10 @@
 // Certificates by structure, for a policy that was read.
 ghost use mathlib.Core.Path.{_≡_};
+ghost use mathlib.Core.Bool.{_&&_, _||_, cond};
 ghost use Rattle.ptacl.specs.Term.{target, policy};
 ghost use Rattle.ptacl.specs.Rules.{allows, denies, never, base, given, certificate};
 ghost use Rattle.files.specs.Places.{Has};
-ghost use Rattle.certify.specs.Judged.{Behind, Judged, PolicyBytes, Lacks, NodeRule};
+ghost use Rattle.certify.specs.Judged.{Behind, Judged, PolicyBytes, Lacks, NodeRule, JoinRule};
 use files::tags;
 
 // Whether a policy has a property, and the place behind it.
@@ -28,10 +29,24 @@ fn skip_target(file: &[u8], at: usize, left: usize) -> usize
         return at + 5;
     }
     let next = skip_target(file, at + 1, left - 1);
-    if tag == tags::TARGET_AND {
-        return skip_target(file, next, left - 1);
+    match tag {
+        tags::TARGET_NOT => next,
+        tags::TARGET_OPTIONAL => next,
+        _ => skip_target(file, next, left - 1),
     }
-    next
+}
+
+// Two judgements: if `any`, one is enough, else both must hold. The place is behind the second.
+fn joined(any: bool, first: Verdict, second: Verdict) -> Verdict
+    ensures { λ r. ⌜ (r .holds ≡ cond any (first .holds || second .holds) (first .holds && second .holds)) × (r .next ≡ second .next) ⌝ }
+{
+    if first.holds == any {
+        return Verdict {
+            holds: first.holds,
+            next: second.next,
+        };
+    }
+    second
 }
 
 // Whether the policy at `at`, with at most `left` nodes, never allows. Nodes below fall at each call.
@@ -55,13 +70,7 @@ fn never_allows(file: &[u8], at: usize, left: usize) -> Verdict
             let first = never_allows(file, next, below);
             let middle = first.next;
             let second = never_allows(file, middle, below);
-            if first.holds {
-                return Verdict {
-                    holds: true,
-                    next: second.next,
-                };
-            }
-            second
+            joined(tag == tags::POLICY_AND, first, second) // an and allows only if both sides do
         }
     }
 }
@@ -93,13 +102,7 @@ fn never_denies(file: &[u8], at: usize, left: usize) -> Verdict
             let first = never_denies(file, next, below);
             let middle = first.next;
             let second = never_denies(file, middle, below);
-            if first.holds {
-                return second;
-            }
-            Verdict {
-                holds: false,
-                next: second.next,
-            }
+            joined(tag == tags::POLICY_OR, first, second) // an or denies only if both sides do
         }
     }
 }
@@ -166,6 +169,13 @@ fn given(body: u8, rule: u8) -> u8
     if body == 0 { 0 } else { rule }
 }
 
+// The rule for two certified policies: 6 below an and, 7 below an or.
+fn join_rule(tag: u8) -> u8
+    ensures { λ r. ⌜ JoinRule tag r ⌝ }
+{
+    if tag == tags::POLICY_AND { 6 } else { 7 }
+}
+
 // The certificate of the policy at `at`, of at most `left` nodes.
 pub fn certificate_at(file: &[u8], at: usize, left: usize) -> Certificate
     requires { ⌜ Has policy (now file) at left ⌝ }
@@ -186,12 +196,12 @@ pub fn certificate_at(file: &[u8], at: usize, left: usize) -> Certificate
                 next: body.next,
             }
         }
-        tags::POLICY_AND => {
+        tags::POLICY_AND..=tags::POLICY_OR => {
             let first = certificate_at(file, next, below);
             let middle = first.next;
             let second = certificate_at(file, middle, below);
             Certificate {
-                number: given(first.number, given(second.number, 6)),
+                number: given(first.number, given(second.number, join_rule(tag))),
                 next: second.next,
             }
         }
