@@ -1,14 +1,17 @@
 -- The rows of a target and of a policy at each lane, by rules over all values and sets that are tested at each of them.
 use Prim.Native.Nat.{ℕ, _%_}
-use mathlib.Core.Path.{_≡_, refl, sym, ap, _∙_}
-use mathlib.Core.Bool.{Bool, true, false, cond, not, _&&_, _||_}
+use mathlib.Core.Path.{_≡_, refl, sym, ap, ap₂, _∙_}
+use mathlib.Core.Bool.{Bool, true, false, cond, not, _&&_, _||_, Bool·beq}
 use lib.Dec.{eqb}
 use borrow.Author.Tests.{eqb-true}
-use Rattle.ptacl.specs.Value.{Value, v1, v0, vU, same, notV, defaultV, andV}
+use Rattle.ptacl.specs.Value.{Value, v1, v0, vU, same, notV, defaultV, andV, orV}
 use Rattle.ptacl.specs.Values.{Values, each, each2, under, isEmpty, only, code, setOf}
+use Rattle.ptacl.specs.Term.{policy}
+use Rattle.ptacl.specs.Meaning.{lift, lift2}
 use Rattle.ptacl.specs.Exposure.{bit, strict}
 use Rattle.ptacl.proofs.Finite.{Finite, bools, values, sets, by, by2}
 use Rattle.ptacl.proofs.Codes.{code-set}
+use Rattle.ptacl.proofs.Sets.{or-is, empty-not}
 use Rattle.table.specs.declared.row.Row.{Row}
 use Rattle.table.specs.declared.judge.TargetRow.{TargetRow}
 use Rattle.table.specs.declared.judge.PolicyRow.{PolicyRow}
@@ -52,22 +55,34 @@ module _ {t : TargetRow} {v : ℕ → Value} (s : Shows t v) where
     zero = record { at = λ j h. n .at j h ∙ rw (s .one .at j h) (by values (λ w. not (same w v1)) (λ w. same (defaultV w) v0) refl (v j)) };
   }
 
+  -- an operation on two values, by rules for where it is 1 and where it is 0 that are tested at all values
+  module _ (f : Value → Value → Value) (one zero : Bool → Bool → Bool)
+      (right1 : values .all (λ a. values .all (λ b. Bool·beq (one (same a v1) (same b v1)) (same (f a b) v1))) ≡ true)
+      (right0 : values .all (λ a. values .all (λ b. Bool·beq (zero (same a v0) (same b v0)) (same (f a b) v0))) ≡ true) where
+    shows-two : {u : TargetRow} {w : ℕ → Value} {y z : Row} → Shows u w → RowIs y (λ j. one (lane (t .is1) j) (lane (u .is1) j))
+        → RowIs z (λ j. zero (lane (t .is0) j) (lane (u .is0) j)) → Shows (record { is1 = y; is0 = z; next = u .next }) (λ j. f (v j) (w j))
+    shows-two {w} k a o = record {
+      one = record {
+        at = λ j h.
+            a .at j h
+            ∙ rw (s .one .at j h, k .one .at j h)
+            (by2 values values (λ a b. one (same a v1) (same b v1)) (λ a b. same (f a b) v1) right1 (v j) (w j));
+      };
+      zero = record {
+        at = λ j h.
+            o .at j h
+            ∙ rw (s .zero .at j h, k .zero .at j h)
+            (by2 values values (λ a b. zero (same a v0) (same b v0)) (λ a b. same (f a b) v0) right0 (v j) (w j));
+      };
+    }
+
   pub shows-and : {u : TargetRow} {w : ℕ → Value} {y z : Row} → Shows u w → RowIs y (λ j. lane (t .is1) j && lane (u .is1) j)
       → RowIs z (λ j. lane (t .is0) j || lane (u .is0) j) → Shows (record { is1 = y; is0 = z; next = u .next }) (λ j. andV (v j) (w j))
-  shows-and {w} k a o = record {
-    one = record {
-      at = λ j h.
-          a .at j h
-          ∙ rw (s .one .at j h, k .one .at j h)
-          (by2 values values (λ a b. same a v1 && same b v1) (λ a b. same (andV a b) v1) refl (v j) (w j));
-    };
-    zero = record {
-      at = λ j h.
-          o .at j h
-          ∙ rw (s .zero .at j h, k .zero .at j h)
-          (by2 values values (λ a b. same a v0 || same b v0) (λ a b. same (andV a b) v0) refl (v j) (w j));
-    };
-  }
+  shows-and = shows-two andV _&&_ _||_ refl refl
+
+  pub shows-or : {u : TargetRow} {w : ℕ → Value} {y z : Row} → Shows u w → RowIs y (λ j. lane (t .is1) j || lane (u .is1) j)
+      → RowIs z (λ j. lane (t .is0) j && lane (u .is0) j) → Shows (record { is1 = y; is0 = z; next = u .next }) (λ j. orV (v j) (w j))
+  shows-or = shows-two orV _||_ _&&_ refl refl
 
 pub shown : (t : TargetRow) → Apart t → Shows t (valueAt t)
 unfolding valueAt
@@ -161,3 +176,29 @@ module _ (left right r : PolicyRow) {au bv ub va : Row} (some : SomeAt left) (mo
         })
         (each2 andV) refl (setAt left j) (setAt right j) e);
   }
+
+-- an or is not(and(not, not)): with allow and deny in each other's place its rows are those of an and
+abbrev swapped : PolicyRow → PolicyRow
+swapped p = record { allow = p .deny; deny = p .allow; undefined = p .undefined; next = p .next }
+
+some-swapped : (p : PolicyRow) → SomeAt p → SomeAt (swapped p)
+unfolding lift
+some-swapped p m = record { some = λ j h. ap isEmpty (not-law p .at j h) ∙ (empty-not (setAt p j) ∙ m .some j h) }
+
+module _ (left right r : PolicyRow) {du ev ue vd : Row} (some : SomeAt left) (more : SomeAt right)
+    (edu : RowIs du (λ j. lane (left .deny) j || lane (left .undefined) j))
+    (eev : RowIs ev (λ j. lane (right .deny) j || lane (right .undefined) j))
+    (eue : RowIs ue (λ j. lane (left .undefined) j && lane ev j)) (evd : RowIs vd (λ j. lane (right .undefined) j && lane du j))
+    (a : RowIs (r .allow) (λ j. lane (left .allow) j || lane (right .allow) j))
+    (d : RowIs (r .deny) (λ j. lane (left .deny) j && lane (right .deny) j))
+    (u : RowIs (r .undefined) (λ j. lane ue j || lane vd j)) where
+  pub either-law : SetsAre r (λ j. each2 orV (setAt left j) (setAt right j))
+  unfolding lift lift2
+  either-law =
+      let b = both-law (swapped left) (swapped right) (swapped r) (some-swapped left some) (some-swapped right more) edu eev eue evd d a u in
+      record {
+        at = λ j h.
+            not-law (swapped r) .at j h
+            ∙ ap (each notV) (b .at j h ∙ ap₂ (each2 andV) (not-law left .at j h) (not-law right .at j h))
+            ∙ sym (or-is policy (setAt left j) (setAt right j));
+      }

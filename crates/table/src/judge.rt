@@ -4,8 +4,8 @@ ghost use mathlib.Core.List.{map};
 ghost use Prim.Native.Nat.{_+_, _*_, _/_, _%_, _<_, _≤_};
 ghost use lib.ListN.{length, getD};
 ghost use Rattle.ptacl.specs.Term.{target, policy};
-ghost use Rattle.ptacl.specs.Value.{andV};
-ghost use Rattle.ptacl.specs.Values.{each2, under};
+ghost use Rattle.ptacl.specs.Value.{notV, andV, orV};
+ghost use Rattle.ptacl.specs.Values.{each, each2, under};
 ghost use Rattle.ptacl.specs.Meaning.{atomAt};
 ghost use Rattle.ptacl.specs.Pairs.{unpacked};
 ghost use Rattle.ptacl.specs.Exposure.{strict};
@@ -75,6 +75,35 @@ fn atom(pairs: &[u32], rows: &[u64; 128], pair: u32, next: usize) -> TargetRow
     }
 }
 
+fn opposite_target(target: TargetRow) -> TargetRow
+    requires { ⌜ Apart target ⌝ }
+    ensures { λ r. ⌜ ValuesAre r (λ j. notV (valueAt target j)) × Apart r × (r .next ≡ target .next) ⌝ }
+{
+    let is1 = target.is1;
+    let is0 = target.is0;
+    TargetRow {
+        is1: is0,
+        is0: is1,
+        next: target.next,
+    }
+}
+
+// Where either side is 1, and where both are 0.
+fn either_target(left: TargetRow, right: TargetRow) -> TargetRow
+    requires { ⌜ Apart left × Apart right ⌝ }
+    ensures { λ r. ⌜ ValuesAre r (λ j. orV (valueAt left j) (valueAt right j)) × Apart r × (r .next ≡ right .next) ⌝ }
+{
+    let is1 = left.is1;
+    let is0 = left.is0;
+    let other1 = right.is1;
+    let other0 = right.is0;
+    TargetRow {
+        is1: is1.or(other1),
+        is0: is0.and(other0),
+        next: right.next,
+    }
+}
+
 // The target at `at`, of at most `left` nodes.
 fn judge_target(file: &[u8], at: usize, left: usize, pairs: &[u32], rows: &[u64; 128]) -> TargetRow
     requires { ⌜ Has target (now file) at left × (length (now pairs) ≤ 16) ⌝ }
@@ -84,16 +113,19 @@ fn judge_target(file: &[u8], at: usize, left: usize, pairs: &[u32], rows: &[u64;
     if tag == tags::TARGET_ATOM {
         return atom(pairs, rows, files::bytes::pair(file, at + 1), at + 5);
     }
+    // An arm of its own: calls that it shared with the and made that slower.
+    if tag == tags::TARGET_OR {
+        let first = judge_target(file, at + 1, left - 1, pairs, rows);
+        let middle = first.next;
+        let second = judge_target(file, middle, left - 1, pairs, rows);
+        return either_target(first, second);
+    }
     let first = judge_target(file, at + 1, left - 1, pairs, rows);
     let is1 = first.is1;
     let is0 = first.is0;
     let next = first.next;
     if tag == tags::TARGET_NOT {
-        return TargetRow {
-            is1: is0,
-            is0: is1,
-            next,
-        };
+        return opposite_target(first);
     }
     if tag == tags::TARGET_OPTIONAL {
         return TargetRow {
@@ -144,6 +176,20 @@ fn targeted(target: TargetRow, body: PolicyRow) -> PolicyRow
     }
 }
 
+fn opposite(set: PolicyRow) -> PolicyRow
+    ensures { λ r. ⌜ SetsAre r (λ j. each notV (setAt set j)) × (r .next ≡ set .next) ⌝ }
+{
+    let allow = set.allow;
+    let deny = set.deny;
+    let undefined = set.undefined;
+    PolicyRow {
+        allow: deny,
+        deny: allow,
+        undefined,
+        next: set.next,
+    }
+}
+
 // Every pair of members: deny with anything is deny, since no set is empty.
 fn both(left: PolicyRow, right: PolicyRow) -> PolicyRow
     requires { ⌜ SomeAt left × SomeAt right ⌝ }
@@ -167,6 +213,29 @@ fn both(left: PolicyRow, right: PolicyRow) -> PolicyRow
     }
 }
 
+// The same with allow and deny in each other's place.
+fn either(left: PolicyRow, right: PolicyRow) -> PolicyRow
+    requires { ⌜ SomeAt left × SomeAt right ⌝ }
+    ensures { λ r. ⌜ SetsAre r (λ j. each2 orV (setAt left j) (setAt right j)) × (r .next ≡ right .next) ⌝ }
+{
+    let a = left.allow;
+    let d = left.deny;
+    let u = left.undefined;
+    let b = right.allow;
+    let e = right.deny;
+    let v = right.undefined;
+    let du = d.or(u);
+    let ev = e.or(v);
+    let u_ev = u.and(ev);
+    let v_du = v.and(du);
+    PolicyRow {
+        allow: a.or(b),
+        deny: d.and(e),
+        undefined: u_ev.or(v_du),
+        next: right.next,
+    }
+}
+
 // The policy at `at`, of at most `left` nodes.
 fn judge_policy(file: &[u8], at: usize, left: usize, pairs: &[u32], rows: &[u64; 128]) -> PolicyRow
     requires { ⌜ Has policy (now file) at left × (length (now pairs) ≤ 16) ⌝ }
@@ -185,18 +254,20 @@ fn judge_policy(file: &[u8], at: usize, left: usize, pairs: &[u32], rows: &[u64;
         let body = judge_policy(file, middle, left - 1, pairs, rows);
         return targeted(target, body);
     }
+    // An arm of its own: calls that it shared with the and made that slower.
+    if tag == tags::POLICY_OR {
+        let first = judge_policy(file, at + 1, left - 1, pairs, rows);
+        let middle = first.next;
+        let second = judge_policy(file, middle, left - 1, pairs, rows);
+        return either(first, second);
+    }
     let first = judge_policy(file, at + 1, left - 1, pairs, rows);
     let allow = first.allow;
     let deny = first.deny;
     let undefined = first.undefined;
     let next = first.next;
     if tag == tags::POLICY_NOT {
-        return PolicyRow {
-            allow: deny,
-            deny: allow,
-            undefined,
-            next,
-        };
+        return opposite(first);
     }
     if tag == tags::DENY_BY_DEFAULT {
         return decided(allow, deny.or(undefined), next);

@@ -5,17 +5,19 @@ use native.Mathlib.Omega.{arith}
 use lib.ListN.{getD}
 use borrow.Fn.Kinds.{In}
 use borrow.Fn.PlainCycle.{Measures, is, falls, and}
-use Rattle.ptacl.specs.Term.{policy, aTargeted, anAnd, tagOf}
-use Rattle.files.proofs.View.{parts, Inner, has-room, has-left, has-inner, has-first, has-and-tag}
+use Rattle.ptacl.specs.Term.{policy, aTargeted, anAnd, anOr, tagOf}
+use Rattle.files.proofs.View.{parts, Inner, joins-tag, and-tag, has-room, has-left, has-inner, has-first}
 use Rattle.evaluate.proofs.Nodes.{for-part}
 use Rattle.table.proofs.Judged.{target-ends, policy-ends, deny-judged, allow-judged, targeted-judged}
-use Rattle.table.proofs.Judged.{policy-not-judged, policy-default-judged, policy-and-judged, some-judged}
+use Rattle.table.proofs.Judged.{policy-not-judged, policy-default-judged, policy-and-judged, policy-or-judged, some-judged}
 use Rattle.table.proofs.judge.judge_policy.Reads as reads
 use Rattle.table.proofs.judge.judge_policy.Kinds as kinds
 use Rattle.table.proofs.judge.+judge_policy.Lts-judge_policy as lts
 use Rattle.table.proofs.judge.both.Reads as both-reads
 use Rattle.table.proofs.judge.decided.Reads as decided-reads
+use Rattle.table.proofs.judge.either.Reads as either-reads
 use Rattle.table.proofs.judge.judge_target.Reads as judge-target-reads
+use Rattle.table.proofs.judge.opposite.Reads as opposite-reads
 use Rattle.table.proofs.judge.targeted.Reads as targeted-reads
 use Rattle.table.proofs.row.Row.or.Reads as or-reads
 use Rattle.table.proofs.row.Row.same.Reads as same-reads
@@ -44,6 +46,10 @@ claims t = (
   reads.Post,
   targeted-reads.Asked,
   targeted-reads.Learnt,
+  either-reads.Asked,
+  either-reads.Learnt,
+  opposite-reads.Asked,
+  opposite-reads.Learnt,
   or-reads.Asked,
   or-reads.Learnt,
   both-reads.Asked,
@@ -51,18 +57,16 @@ claims t = (
 )
 
 module _ (t : ℕ) where
-  -- the byte is none of deny, allow, targeted; nor of not and deny-by-default
-  inner-byte : (c : lts.Else3 (claims t) (at t) reads.Post) →
-      let a = c .before .before .before .before .before .before .args in
+  -- the byte is none of deny, allow, targeted; nor of or, not and deny-by-default
+  inner-byte : (c : lts.Else4 (claims t) (at t) reads.Post) →
+      let a = c .before .before .before .before .before .before .before .args in
       Inner policy (getD (a .file .now) (a .at) 0)
-  inner-byte c =
-      let h = c .before .before .before .before .before .before .pre .1 .0 in
-      has-inner h (c .before .before .if1 .left, c .before .if2 .left, c .if3 .left)
+  inner-byte c = has-inner (c .before .before .before .before .before .before .before .pre .1 .0) (c .before .before .before .if1 .left, c .before .before .if2 .left, c .before .if3 .left)
 
-  and-byte : (c : lts.Else5 (claims t) (at t) reads.Post) →
-      let a = c .before .before .before .before .before .before .before .before .before .before .before .before .args in
+  and-byte : (c : lts.Else6 (claims t) (at t) reads.Post) →
+      let a = c .before .before .before .before .before .before .before .before .before .before .before .before .before .args in
       getD (a .file .now) (a .at) 0 ≡ tagOf (anAnd policy)
-  and-byte c = has-and-tag (inner-byte (c .before .before .before .before .before .before)) (c .before .if4 .left) (c .if5 .left)
+  and-byte c = and-tag (joins-tag (inner-byte (c .before .before .before .before .before .before)) (c .before .if5 .left) (c .if6 .left)) (c .before .before .before .before .before .before .if4 .left)
 
   returns : lts.Need-returns (claims t) (at t) reads.Post
   returns c =
@@ -93,38 +97,42 @@ module _ (t : ℕ) where
       targeted-judged _ _ _ (c .before .before .before .if3 .taken) f g (c .targeted .ensures)
 
   judge-policy-requires-2 : lts.Need-judge-policy-requires-2 (claims t) (at t) reads.Post
-  judge-policy-requires-2 c κs =
-      let h = c .before .before .before .before .before .before .pre in for-part h (has-first (h .1 .0) (inner-byte c))
-
-  returns-4 : lts.Need-returns-4 (claims t) (at t) reads.Post
-  returns-4 c = policy-not-judged _ (c .before .before .before .before .judge-policy2 .ensures) (c .if4 .taken)
-
-  returns-5 : lts.Need-returns-5 (claims t) (at t) reads.Post
-  returns-5 c =
-      let f = c .before .before .before .before .before .before .before .judge-policy2 .ensures in
-      policy-default-judged _ f _ (c .before .before .if5 .taken) (c .before .or .ensures) (c .decided3 .ensures)
-
-  sub-judge-policy-3 : lts.Need-sub-judge-policy-3 (claims t) (at t) reads.Post
-  sub-judge-policy-3 c =
-      has-left (c .before .before .before .before .before .before .before .before .before .before .before .before .pre .1 .0)
+  judge-policy-requires-2 c κs = let h = c .before .before .before .before .before .before .before .pre in for-part h (parts (anOr policy) (c .if4 .taken) (h .1 .0) .0)
 
   judge-policy-requires-3 : lts.Need-judge-policy-requires-3 (claims t) (at t) reads.Post
   judge-policy-requires-3 c κs =
-      let h = c .before .before .before .before .before .before .before .before .before .before .before .before .pre in
-      for-part h (parts (anAnd policy) (and-byte c) (h .1 .0) .1 _ (policy-ends (c .before .before .before .before .before .judge-policy2 .ensures)))
+      let h = c .before .before .before .before .before .before .before .before .pre in for-part h (parts (anOr policy) (c .before .if4 .taken) (h .1 .0) .1 _ (policy-ends (c .judge-policy2 .ensures)))
+
+  either-requires : lts.Need-either-requires (claims t) (at t) reads.Post
+  either-requires c κs =
+      let n = parts (anOr policy) (c .before .before .if4 .taken) (c .before .before .before .before .before .before .before .before .before .pre .1 .0) in
+      let f = c .before .judge-policy2 .ensures in
+      (some-judged _ (n .0) f, some-judged _ (n .1 _ (policy-ends f)) (c .judge-policy3 .ensures))
+
+  returns-4 : lts.Need-returns-4 (claims t) (at t) reads.Post
+  returns-4 c = policy-or-judged _ (c .before .before .judge-policy2 .ensures) _ _ (c .before .judge-policy3 .ensures) (c .before .before .before .if4 .taken) (c .either .ensures)
+
+  judge-policy-requires-4 : lts.Need-judge-policy-requires-4 (claims t) (at t) reads.Post
+  judge-policy-requires-4 c κs = let h = c .before .before .before .before .before .before .before .pre in for-part h (has-first (h .1 .0) (inner-byte c))
+
+  returns-5 : lts.Need-returns-5 (claims t) (at t) reads.Post
+  returns-5 c = policy-not-judged _ (c .before .before .before .before .before .judge-policy4 .ensures) _ (c .before .if5 .taken) (c .opposite .ensures)
+
+  returns-6 : lts.Need-returns-6 (claims t) (at t) reads.Post
+  returns-6 c = policy-default-judged _ (c .before .before .before .before .before .before .before .judge-policy4 .ensures) _ (c .before .before .if6 .taken) (c .before .or .ensures) (c .decided3 .ensures)
+
+  judge-policy-requires-5 : lts.Need-judge-policy-requires-5 (claims t) (at t) reads.Post
+  judge-policy-requires-5 c κs =
+      let h = c .before .before .before .before .before .before .before .before .before .before .before .before .before .pre in for-part h (parts (anAnd policy) (and-byte c) (h .1 .0) .1 _ (policy-ends (c .before .before .before .before .before .judge-policy4 .ensures)))
 
   both-requires : lts.Need-both-requires (claims t) (at t) reads.Post
   both-requires c κs =
-      let h = c .before .before .before .before .before .before .before .before .before .before .before .before .before .pre .1 .0 in
-      let f = c .before .before .before .before .before .before .judge-policy2 .ensures in
-      let e = parts (anAnd policy) (and-byte (c .before)) h .1 _ (policy-ends f) in
-      let n = inner-byte (c .before .before .before .before .before .before .before) in
-      (some-judged _ (has-first h n) f, some-judged _ e (c .judge-policy3 .ensures))
+      let n = parts (anAnd policy) (and-byte (c .before)) (c .before .before .before .before .before .before .before .before .before .before .before .before .before .before .pre .1 .0) in
+      let f = c .before .before .before .before .before .before .judge-policy4 .ensures in
+      (some-judged _ (n .0) f, some-judged _ (n .1 _ (policy-ends f)) (c .judge-policy5 .ensures))
 
-  returns-6 : lts.Need-returns-6 (claims t) (at t) reads.Post
-  returns-6 c =
-      let f = c .before .before .before .before .before .before .before .judge-policy2 .ensures in
-      policy-and-judged _ f _ _ (and-byte (c .before .before)) (c .before .judge-policy3 .ensures) (c .both .ensures)
+  returns-7 : lts.Need-returns-7 (claims t) (at t) reads.Post
+  returns-7 c = policy-and-judged _ (c .before .before .before .before .before .before .before .judge-policy4 .ensures) _ _ (c .before .judge-policy5 .ensures) (and-byte (c .before .before)) (c .both .ensures)
 
 pub +judge-policy-spec : {M : Type 1} → statement M
 +judge-policy-spec = close μ λ t. lts.spec (claims t)
@@ -148,14 +156,22 @@ pub +judge-policy-spec : {M : Type 1} → statement M
     (judge-policy-requires t)
     (targeted-requires t)
     (returns-3 t)
-    (λ c. omega (arith, has-room (c .before .before .before .before .before .before .pre .1 .0)))
-    (λ c. has-left (c .before .before .before .before .before .before .pre .1 .0))
+    (λ c. omega (arith, has-room (c .before .before .before .before .before .before .before .pre .1 .0)))
+    (λ c. has-left (c .before .before .before .before .before .before .before .pre .1 .0))
     (judge-policy-requires-2 t)
+    (λ c. has-left (c .before .before .before .before .before .before .before .before .pre .1 .0))
+    (judge-policy-requires-3 t)
+    (either-requires t)
     (returns-4 t)
-    (λ c κs. tt)
+    (λ c. omega (arith, has-room (c .before .before .before .before .before .before .before .pre .1 .0)))
+    (λ c. has-left (c .before .before .before .before .before .before .before .pre .1 .0))
+    (judge-policy-requires-4 t)
     (λ c κs. tt)
     (returns-5 t)
-    (sub-judge-policy-3 t)
-    (judge-policy-requires-3 t)
-    (both-requires t)
+    (λ c κs. tt)
+    (λ c κs. tt)
     (returns-6 t)
+    (λ c. has-left (c .before .before .before .before .before .before .before .before .before .before .before .before .before .pre .1 .0))
+    (judge-policy-requires-5 t)
+    (both-requires t)
+    (returns-7 t)
