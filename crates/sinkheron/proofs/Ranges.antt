@@ -14,7 +14,7 @@ use Rattle.ptacl.specs.Term.{Policy, nodes, atoms}
 use Rattle.ptacl.specs.Meaning.{eval}
 use Rattle.ptacl.specs.Pairs.{normal, IsNormal, packed}
 use Rattle.ptacl.specs.Exposure.{subset, Exposure}
-use Rattle.ptacl.specs.Rules.{Certified, Certificate, cert1, cert2, cert3, cert4, cert5, cert6, none, least}
+use Rattle.ptacl.specs.Rules.{Certified, Certificate, cert1, cert2, cert3, cert4, cert5, cert6, cert7, none, least}
 use Rattle.ptacl.proofs.Bools.{and-left, and-right}
 use Rattle.ptacl.proofs.Codes.{code-set, of-code}
 use Rattle.ptacl.proofs.Pairs.{pairsOf, pairs-exist, pairs-254}
@@ -87,20 +87,21 @@ decide-ranged b = policy-ranged b (λ p f. request-ranged (λ q g. refused-if-ra
 pub list-pairs-ranged : {s before : List ℕ} → Bytes s → Ranged (λ k. k ≤ 254) (L.Lists s before)
 list-pairs-ranged b = policy-ranged b (λ p f. the-holds (λ ps h. refused-if-ranged refl (λ e. gives-holds Refused (λ k. k ≤ 254) (omega (arith, length-map ps packed, pairs-254 p (f .fits .few) h)))))
 
-rule-most : {k : ℕ} {p : Policy} → Certified k p → k ≤ 6
+rule-most : {k : ℕ} {p : Policy} → Certified k p → k ≤ 7
 rule-most (cert1 h) = omega arith
 rule-most (cert2 h) = omega arith
 rule-most (cert3 h) = omega arith
 rule-most (cert4 h) = omega arith
 rule-most (cert5 h) = omega arith
 rule-most (cert6 h k) = omega arith
+rule-most (cert7 h k) = omega arith
 
-number-most : {k : ℕ} {p : Policy} → Certificate p k → k ≤ 6
+number-most : {k : ℕ} {p : Policy} → Certificate p k → k ≤ 7
 number-most (none n) = omega arith
 number-most (least c l) = rule-most c
 
-pub certify-ranged : {s : List ℕ} → Bytes s → Ranged (λ k. k ≤ 6) (C.Certifies s)
-certify-ranged b = policy-ranged b (λ p f. the-holds (λ k c. gives-holds Refused (λ k. k ≤ 6) (number-most c)))
+pub certify-ranged : {s : List ℕ} → Bytes s → Ranged (λ k. k ≤ 7) (C.Certifies s)
+certify-ranged b = policy-ranged b (λ p f. the-holds (λ k c. gives-holds Refused (λ k. k ≤ 7) (number-most c)))
 
 -- a normal form is within the policy's pairs
 normal-254 : (p : Policy) → nodes p ≤ 255 → {q r : Request} → IsNormal (atoms p) q r → length r ≤ 254

@@ -1,4 +1,4 @@
--- search's promise leaves one outcome; and the verdict is 0 exactly if the policy is resistant.
+-- search's promise leaves one outcome; the verdict is 0 exactly if the policy is resistant; and spelling out every or changes no verdict.
 use mathlib.Core.Path.{_≡_, refl, subst}
 use mathlib.Core.Logic.{_↔_}
 use mathlib.Core.Bool.{cond}
@@ -9,9 +9,11 @@ use lib.Dec.{eqb}
 use Rattle.ptacl.specs.Request.{Pair}
 use Rattle.ptacl.specs.Term.{Policy}
 use Rattle.ptacl.specs.Exposure.{Resistant}
+use Rattle.ptacl.specs.Spelled.{spelled}
 use Rattle.ptacl.proofs.Pairs.{pairs-unique}
 use Rattle.ptacl.proofs.Exposed.{unexposed}
 use Rattle.ptacl.proofs.First.{first-unique}
+use Rattle.ptacl.proofs.Spelled.{spelled-resistant, spelled-first}
 use Rattle.files.specs.Encoding.{Bytes, IsPolicy}
 use Rattle.files.proofs.PolicyComplete.{policy-read-one}
 use Rattle.sinkheron.specs.declared.Searched.{Searched}
@@ -46,3 +48,16 @@ pub verdict-means : {policy before after : List ℕ} {v : Values} {p : Policy} �
 verdict-means f (holding g (the h (passes l (passes k (is-resistant r))))) = (λ e. subst Resistant (policy-read-one g f) r, λ k. refl)
 verdict-means f (holding g (the h (passes l (passes k (is-exposed e))))) =
     (λ e. absurd (omega arith), λ r. absurd (unexposed (subst Resistant (policy-read-one f g) r) (e .hit)))
+
+-- document 02, C-13: whatever a search may answer and leave in the space for a policy, it may for the policy with every or spelled out
+pub spelled-judged : {p : Policy} {ps : List Pair} {before after : List ℕ} {a : Answer Values}
+    → Judges (spelled p) ps before a after ↔ Judges p ps before a after
+spelled-judged {p} {ps} {before} = (there, back)
+  where
+    there : {a : Answer Values} {after : List ℕ} → Judges (spelled p) ps before a after → Judges p ps before a after
+    there (is-resistant r) = is-resistant (spelled-resistant p .0 r)
+    there (is-exposed f) = is-exposed (spelled-first p .0 f)
+
+    back : {a : Answer Values} {after : List ℕ} → Judges p ps before a after → Judges (spelled p) ps before a after
+    back (is-resistant r) = is-resistant (spelled-resistant p .1 r)
+    back (is-exposed f) = is-exposed (spelled-first p .1 f)

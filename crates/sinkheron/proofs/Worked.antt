@@ -1,4 +1,4 @@
--- Document 01's worked policies from their bodies: each is read to the term of ptacl's table, which holds of it, and the files of each
+-- Document 01's worked policies, and the policies of document 02's or, from their bodies: each is read to the term of ptacl's table, which holds of it, and the files of each
 -- exposure are told. Beside it the edge of 16 pairs.
 use Prim.Native.Nat.{ℕ, zero, suc}
 use mathlib.Core.Path.{_≡_, refl}
@@ -13,7 +13,7 @@ use Rattle.files.specs.Prefix.{below, body, scan}
 use Rattle.files.specs.ReadPolicy.{byteAt, headAt, pairAt, readPolicy}
 use Rattle.search.specs.Found.{twoFiles, exposureFiles}
 
--- A to F and deny, as document 01 writes them
+-- A to E as document 01 writes them; G, the same with its or spelled out, H and I; F and deny
 abbrev pub bodies : List (List ℕ)
 bodies =
     (0x23 ∷ 0x24 ∷ 0x23 ∷ 0x22 ∷ 0x10 ∷ 0 ∷ 1 ∷ 0 ∷ 1 ∷ 0x20 ∷ [])
@@ -21,6 +21,10 @@ bodies =
     ∷ (0x22 ∷ 0x11 ∷ 0x10 ∷ 0 ∷ 1 ∷ 0 ∷ 1 ∷ 0x21 ∷ [])
     ∷ (0x22 ∷ 0x11 ∷ 0x12 ∷ 0x10 ∷ 0 ∷ 1 ∷ 0 ∷ 1 ∷ 0x21 ∷ [])
     ∷ (0x23 ∷ 0x23 ∷ 0x24 ∷ 0x22 ∷ 0x10 ∷ 0 ∷ 1 ∷ 0 ∷ 2 ∷ 0x21 ∷ [])
+    ∷ (0x24 ∷ 0x22 ∷ 0x14 ∷ 0x10 ∷ 0 ∷ 1 ∷ 0 ∷ 2 ∷ 0x10 ∷ 0 ∷ 2 ∷ 0 ∷ 1 ∷ 0x21 ∷ [])
+    ∷ (0x24 ∷ 0x22 ∷ 0x11 ∷ 0x13 ∷ 0x11 ∷ 0x10 ∷ 0 ∷ 1 ∷ 0 ∷ 2 ∷ 0x11 ∷ 0x10 ∷ 0 ∷ 2 ∷ 0 ∷ 1 ∷ 0x21 ∷ [])
+    ∷ (0x26 ∷ 0x24 ∷ 0x22 ∷ 0x10 ∷ 0 ∷ 1 ∷ 0 ∷ 2 ∷ 0x21 ∷ 0x23 ∷ 0x22 ∷ 0x10 ∷ 0 ∷ 2 ∷ 0 ∷ 1 ∷ 0x20 ∷ [])
+    ∷ (0x26 ∷ 0x23 ∷ 0x24 ∷ 0x23 ∷ 0x22 ∷ 0x10 ∷ 0 ∷ 1 ∷ 0 ∷ 1 ∷ 0x20 ∷ 0x24 ∷ 0x22 ∷ 0x10 ∷ 0 ∷ 1 ∷ 0 ∷ 2 ∷ 0x21 ∷ [])
     ∷ (0x21 ∷ [])
     ∷ (0x20 ∷ [])
     ∷ []
@@ -33,6 +37,10 @@ fronts =
     ∷ (1 ∷ 0 ∷ 4 ∷ 0 ∷ 1 ∷ 0 ∷ 0 ∷ 1 ∷ 0 ∷ 8 ∷ 0 ∷ 1 ∷ 0 ∷ 0 ∷ 0 ∷ 1 ∷ 0 ∷ 1 ∷ [])
     ∷ (1 ∷ 0 ∷ 0 ∷ 1 ∷ 0 ∷ 4 ∷ 0 ∷ 1 ∷ 0 ∷ 1 ∷ [])
     ∷ []
+    ∷ []
+    ∷ []
+    ∷ []
+    ∷ (1 ∷ 0 ∷ 4 ∷ 0 ∷ 1 ∷ 0 ∷ 0 ∷ 1 ∷ 0 ∷ 8 ∷ 0 ∷ 1 ∷ 0 ∷ 0 ∷ 0 ∷ 1 ∷ 0 ∷ 1 ∷ [])
     ∷ []
     ∷ []
     ∷ []
