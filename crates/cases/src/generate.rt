@@ -63,14 +63,14 @@ fn policy_tag(seed: &mut usize, depth: usize, is_leaf: bool) -> usize {
         x
     };
     byte(
-        b"\x20\x21\x21\x21\x22\x22\x22\x22\x23\x23\x23\x24\x24\x25\x25\x25",
+        b"\x20\x21\x21\x21\x22\x22\x22\x26\x23\x23\x23\x24\x24\x25\x25\x26",
         i,
     )
 }
 
 fn target_tag(seed: &mut usize, is_leaf: bool) -> usize {
     let i = if is_leaf { 0 } else { roll(seed, 8) };
-    byte(b"\x10\x10\x10\x11\x11\x12\x13\x13", i)
+    byte(b"\x10\x10\x10\x11\x11\x12\x13\x14", i)
 }
 
 // The tag of what is due: depth * 2, plus 1 for a target.
@@ -160,7 +160,7 @@ fn damaged(seed: &mut usize, f: File) -> File {
     let x = roll(seed, 256);
     match roll(seed, 24) {
         0 => file::altered(f, place, x),
-        1 => file::altered(f, place, plus(16, x % 22)),
+        1 => file::altered(f, place, plus(16, x % 24)),
         2 => file::of_length(f, place),
         3 => file::stated(file::of_length(f, place)),
         4 => file::stated(file::add_byte(f, x)),

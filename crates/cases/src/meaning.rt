@@ -60,6 +60,18 @@ fn both(facts: &Facts, a: usize, b: usize, v: usize) -> bool {
     }
 }
 
+// A side that may be 0 leaves the other side's value, except that 1 wins over all.
+fn either(facts: &Facts, a: usize, b: usize, v: usize) -> bool {
+    match v {
+        ZERO => holds(facts, a, ZERO) && holds(facts, b, ZERO),
+        ONE => holds(facts, a, ONE) || holds(facts, b, ONE),
+        _ => {
+            holds(facts, a, UNDEFINED) && (holds(facts, b, ZERO) || holds(facts, b, UNDEFINED))
+                || holds(facts, a, ZERO) && holds(facts, b, UNDEFINED)
+        }
+    }
+}
+
 // The body's value unless the target is 0, and undefined unless it is 1.
 fn targeted(facts: &Facts, target: usize, body: usize, v: usize) -> bool {
     !holds(facts, target, ZERO) && holds(facts, body, v)
@@ -75,7 +87,8 @@ fn may(nodes: &Table, facts: &Facts, n: usize, v: usize) -> bool {
         0x22 => targeted(facts, a, b, v),
         0x11 | 0x23 => holds(facts, a, opposite(v)),
         0x12 | 0x24 => by_default(facts, a, v),
-        _ => both(facts, a, b, v),
+        0x13 | 0x25 => both(facts, a, b, v),
+        _ => either(facts, a, b, v),
     }
 }
 

@@ -30,6 +30,7 @@ fn never_allows(facts: &Facts, tag: usize, a: usize, b: usize) -> bool {
         0x23 => holds(facts, a, NEVER_DENIES),
         0x24 => holds(facts, a, NEVER_ALLOWS),
         0x25 => holds(facts, a, NEVER_ALLOWS) || holds(facts, b, NEVER_ALLOWS),
+        0x26 => holds(facts, a, NEVER_ALLOWS) && holds(facts, b, NEVER_ALLOWS),
         _ => false,
     }
 }
@@ -40,6 +41,7 @@ fn never_denies(facts: &Facts, tag: usize, a: usize, b: usize) -> bool {
         0x22 => holds(facts, b, NEVER_DENIES),
         0x23 => holds(facts, a, NEVER_ALLOWS),
         0x25 => holds(facts, a, NEVER_DENIES) && holds(facts, b, NEVER_DENIES),
+        0x26 => holds(facts, a, NEVER_DENIES) || holds(facts, b, NEVER_DENIES),
         _ => false,
     }
 }
@@ -47,6 +49,7 @@ fn never_denies(facts: &Facts, tag: usize, a: usize, b: usize) -> bool {
 // The smallest number that applies at node n, whose own facts are there but for the last.
 fn rule(facts: &Facts, n: usize, tag: usize, a: usize, b: usize) -> usize {
     let plain = !holds(facts, n, TARGET_NOT);
+    let both = holds(facts, a, CERTIFIED) & holds(facts, b, CERTIFIED);
     if holds(facts, n, NEVER_ALLOWS) {
         1
     } else if !holds(facts, n, TARGETED) {
@@ -57,8 +60,10 @@ fn rule(facts: &Facts, n: usize, tag: usize, a: usize, b: usize) -> usize {
         4
     } else if (tag == 0x24) & holds(facts, a, CERTIFIED) {
         5
-    } else if (tag == 0x25) & holds(facts, a, CERTIFIED) & holds(facts, b, CERTIFIED) {
+    } else if (tag == 0x25) & both {
         6
+    } else if (tag == 0x26) & both {
+        7
     } else {
         0
     }

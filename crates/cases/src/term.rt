@@ -74,9 +74,9 @@ pub fn framed(file: &[u8], short: usize, version: usize, length: usize) -> Outco
 }
 
 fn sort_of(tag: usize) -> usize {
-    if 0x10 <= tag && tag <= 0x13 {
+    if 0x10 <= tag && tag <= 0x14 {
         TARGET
-    } else if 0x20 <= tag && tag <= 0x25 {
+    } else if 0x20 <= tag && tag <= 0x26 {
         POLICY
     } else {
         NEITHER
@@ -86,7 +86,7 @@ fn sort_of(tag: usize) -> usize {
 fn parts(tag: usize) -> usize {
     match tag {
         0x10 | 0x20 | 0x21 => 0,
-        0x13 | 0x22 | 0x25 => 2,
+        0x13 | 0x14 | 0x22 | 0x25 | 0x26 => 2,
         _ => 1,
     }
 }
