@@ -41,42 +41,42 @@ static void put_pair(struct bytes *b)
 
 static void target(struct bytes *b, unsigned depth)
 {
-    unsigned k = depth == 0 ? 0 : below(6);
+    unsigned k = depth == 0 ? 0 : below(7);
     if (k <= 2) {
         put(b, 0x10);
         put_pair(b);
     } else {
         put(b, 0x0e + k);
         target(b, depth - 1);
-        if (k == 5)
+        if (k >= 5)
             target(b, depth - 1);
     }
 }
 
+/* Of an and or of an or. */
+static unsigned join_tag(void) { return 0x25 + below(2); }
+
 static void policy(struct bytes *b, unsigned depth)
 {
-    unsigned k = depth == 0 ? below(2) : below(8);
-    if (k == 6)
-        k = 2;
-    if (k == 7)
-        k = 5;
-    put(b, 0x20 + k);
-    if (k == 2)
+    static const uint8_t tags[] = {0x20, 0x21, 0x22, 0x22, 0x23, 0x24, 0x25, 0x26};
+    unsigned tag = tags[below(depth == 0 ? 2 : sizeof tags)];
+    put(b, tag);
+    if (tag == 0x22)
         target(b, depth - 1);
-    if (k >= 2)
+    if (tag >= 0x22)
         policy(b, depth - 1);
-    if (k == 5)
+    if (tag >= 0x25)
         policy(b, depth - 1);
 }
 
-/* A balanced tree of ands: twice as many nodes as leaves less one, about the limit of 255. */
+/* A balanced tree of ands and ors: twice as many nodes as leaves less one, about the limit of 255. */
 static void broad(struct bytes *b, unsigned leaves)
 {
     if (leaves == 1) {
         put(b, 0x20 + below(2));
         return;
     }
-    put(b, 0x25);
+    put(b, join_tag());
     broad(b, leaves / 2);
     broad(b, leaves - leaves / 2);
 }
@@ -90,7 +90,7 @@ static void nots(struct bytes *b, unsigned count)
 /* About the limit of nodes, which may be met in a policy of every kind. */
 static void broad_and_more(struct bytes *b)
 {
-    put(b, 0x25);
+    put(b, join_tag());
     broad(b, 118 + below(14));
     policy(b, 1 + below(4));
 }
@@ -98,7 +98,7 @@ static void broad_and_more(struct bytes *b)
 /* About both limits at once: behind 255 nodes the next may be at depth 33. */
 static void broad_and_deep(struct bytes *b)
 {
-    put(b, 0x25);
+    put(b, join_tag());
     broad(b, 111 + below(3));
     nots(b, 30 + below(3));
     put(b, 0x20 + below(2));
@@ -125,27 +125,43 @@ static void make_policy(struct bytes *b)
     close_frame(b);
 }
 
+static void put_atom(struct bytes *b, unsigned name, unsigned value)
+{
+    const uint8_t atom[] = {0x10, 0, (uint8_t)name, 0, (uint8_t)value};
+    for (size_t k = 0; k < sizeof atom; k++)
+        put(b, atom[k]);
+}
+
+/* A target with the value 1 of that name, now and then beside an atom that was there before, which is no pair more. */
+static void wide_target(struct bytes *b, unsigned name)
+{
+    if (below(3) == 0)
+        put(b, 0x11 + below(2));
+    if (below(3) == 0) {
+        put(b, 0x13 + below(2));
+        put_atom(b, below(name + 1), 1);
+    }
+    put_atom(b, name, 1);
+}
+
 /* Targets of so many names with one value each, and now and then one value more: up to 16 pairs, or 17. */
 static void make_wide_policy(struct bytes *b)
 {
     unsigned names = 5 + below(4);
     b->length = 3;
     for (unsigned k = 0; k < names; k++) {
+        if (below(4) == 0) {
+            put(b, join_tag());
+            put(b, 0x20 + below(2));
+        }
         put(b, 0x22);
-        if (below(3) == 0)
-            put(b, 0x11 + below(2));
-        put(b, 0x10);
-        put(b, 0);
-        put(b, k);
-        put(b, 0);
-        put(b, 1);
+        wide_target(b, k);
         if (below(2) == 0)
             put(b, 0x23 + below(2));
     }
     if (below(4) == 0) {
-        static const uint8_t more[] = {0x22, 0x10, 0, 0, 0, 2};
-        for (size_t k = 0; k < sizeof more; k++)
-            put(b, more[k]);
+        put(b, 0x22);
+        put_atom(b, 0, 2);
     }
     put(b, 0x20 + below(2));
     close_frame(b);
@@ -206,7 +222,7 @@ static size_t some_tag(const struct bytes *p)
 /* Of policies one damage more: at a tag's place a tag of the other sort, or a byte that is just none. */
 static void damage_policy(struct bytes *p)
 {
-    static const uint8_t no_tags[] = {0x00, 0x0f, 0x14, 0x1f, 0x26, 0xff};
+    static const uint8_t no_tags[] = {0x00, 0x0f, 0x15, 0x1f, 0x27, 0xff};
     if (below(4) != 0) {
         damage(p);
         return;
@@ -215,7 +231,7 @@ static void damage_policy(struct bytes *p)
     if (below(3) == 0)
         *tag = no_tags[below(sizeof no_tags)];
     else
-        *tag = (uint8_t)(*tag < 0x20 ? 0x20 + below(6) : 0x10 + below(4));
+        *tag = (uint8_t)(*tag < 0x20 ? 0x20 + below(7) : 0x10 + below(5));
 }
 
 /* ---- texts */
@@ -236,8 +252,8 @@ static void put_decimal(struct bytes *b, const uint8_t *number)
 /* The line of a policy file that is not damaged yet; one past the limits has a line too. */
 static void make_text(struct bytes *t, const struct bytes *p)
 {
-    static const char *const target_words[] = {"tatom", "tnot", "topt", "tand"};
-    static const char *const policy_words[] = {"pzero", "pone", "ptar", "pnot", "pdbd", "pand"};
+    static const char *const target_words[] = {"tatom", "tnot", "topt", "tand", "tor"};
+    static const char *const policy_words[] = {"pzero", "pone", "ptar", "pnot", "pdbd", "pand", "por"};
     t->length = 0;
     for (size_t at = 3; at < p->length; at++) {
         unsigned tag = p->at[at];
@@ -271,8 +287,9 @@ static const struct slip {
     {DIGITS, RUN, "99999"}, {DIGITS, RUN, "100000"}, {DIGITS, RUN, "4294967297"}, {DIGITS, RUN, "18446744073709551617"},
     {DIGITS, RUN, "12345678901234567890"}, {DIGITS, RUN, "0x10"}, {DIGITS, RUN, "pone"}, {DIGITS, BYTE, "/"}, {DIGITS, BYTE, ":"},
     {DIGITS, BYTE, "\xb2"}, {LETTERS, BYTE, ""}, {LETTERS, NOTHING, "t"}, {LETTERS, BYTE, "p"}, {LETTERS, BYTE, "\xef"}, {LETTERS, RUN, ""},
-    {LETTERS, RUN, "tatom"}, {LETTERS, RUN, "tnot"}, {LETTERS, RUN, "topt"}, {LETTERS, RUN, "tand"}, {LETTERS, RUN, "pzero"}, {LETTERS, RUN, "pone"},
-    {LETTERS, RUN, "ptar"}, {LETTERS, RUN, "pnot"}, {LETTERS, RUN, "pdbd"}, {LETTERS, RUN, "pand"}, {LETTERS, RUN, "1"}, {GAPS, NOTHING, "s"},
+    {LETTERS, RUN, "tatom"}, {LETTERS, RUN, "tnot"}, {LETTERS, RUN, "topt"}, {LETTERS, RUN, "tand"}, {LETTERS, RUN, "tor"}, {LETTERS, RUN, "pzero"},
+    {LETTERS, RUN, "pone"}, {LETTERS, RUN, "ptar"}, {LETTERS, RUN, "pnot"}, {LETTERS, RUN, "pdbd"}, {LETTERS, RUN, "pand"}, {LETTERS, RUN, "por"},
+    {LETTERS, RUN, "or"}, {LETTERS, RUN, "1"}, {GAPS, NOTHING, "s"},
     {GAPS, NOTHING, "0"}, {GAPS, NOTHING, "\x80"},
 };
 
@@ -355,16 +372,33 @@ static const char *operation;
 enum { NUMBERS = 55 };
 static unsigned long numbers[NUMBERS], read_numbers[NUMBERS], written_numbers[NUMBERS], sets[8], rules[8], verdicts[2], searched[17];
 static unsigned long misplaced[2]; /* of refusal 15: policies where a target is due, targets where a policy is */
+static unsigned long ors[2]; /* policies that were decided with a target or in them, with a policy or */
 
-static void met(const uint8_t *policy, const struct answer *decided, const struct answer *certified, const struct answer *search)
+/* Whether a policy that was read has a node of that tag. */
+static int has_node(const struct bytes *p, unsigned tag)
+{
+    size_t at = 3;
+    while (at < p->length && p->at[at] != tag)
+        at += p->at[at] == 0x10 ? 5 : 1;
+    return at < p->length;
+}
+
+static void met_decided(const struct bytes *p, unsigned set)
+{
+    sets[set]++;
+    ors[0] += (unsigned)has_node(p, 0x14);
+    ors[1] += (unsigned)has_node(p, 0x26);
+}
+
+static void met(const struct bytes *p, const struct answer *decided, const struct answer *certified, const struct answer *search)
 {
     numbers[decided->number % NUMBERS]++;
     if (decided->number == 15)
-        misplaced[policy[decided->place] < 0x20]++;
+        misplaced[p->at[decided->place] < 0x20]++;
     if (search->number == 12 || search->number == 13)
         numbers[search->number]++;
     if (decided->number == 0)
-        sets[decided->set]++;
+        met_decided(p, decided->set);
     if (certified->number == 0)
         rules[certified->rule]++;
     if (search->number == 0) {
@@ -429,7 +463,7 @@ static int trial(const struct bytes *p, const struct bytes *q, const struct guar
                 packed(a, (uint64_t)a.verdict << 8 | (uint64_t)a.pairs << 16 | (uint64_t)a.bytes << 24 | (uint64_t)a.subset << 32 | (uint64_t)a.hides << 48),
                 space, model_space, space_len))
         return 1;
-    met(policy, &decided, &certified, &a);
+    met(p, &decided, &certified, &a);
 
     operation = "normal_form";
     space = lend(&memory[2], space_len, at_end);
@@ -494,6 +528,9 @@ static void show(const char *what, const struct bytes *b)
 static const uint8_t of_files[] = {0, 1, 2, 3, 4, 5, 15, 6, 7, 8, 12, 13, 21, 22, 23, 24, 25, 26};
 static const uint8_t of_texts[] = {0, 6, 7, 13, 51, 52, 53, 54};
 static const uint8_t of_lines[] = {0, 1, 2, 3, 4, 5, 15, 6, 7, 8, 13};
+static const uint8_t of_sets[] = {1, 2, 3, 4, 5, 6, 7};
+static const uint8_t of_rules[] = {0, 1, 2, 3, 4, 5, 6, 7};
+static const uint8_t of_two[] = {0, 1};
 
 static int all_met(const unsigned long *counts, const uint8_t *wanted, size_t length)
 {
@@ -503,10 +540,12 @@ static int all_met(const unsigned long *counts, const uint8_t *wanted, size_t le
     return k == length;
 }
 
-static int every_number_met(void)
+static int everything_met(void)
 {
     return all_met(numbers, of_files, sizeof of_files) && all_met(read_numbers, of_texts, sizeof of_texts) &&
-           all_met(written_numbers, of_lines, sizeof of_lines) && misplaced[0] > 0 && misplaced[1] > 0;
+           all_met(written_numbers, of_lines, sizeof of_lines) && all_met(sets, of_sets, sizeof of_sets) &&
+           all_met(rules, of_rules, sizeof of_rules) && all_met(verdicts, of_two, sizeof of_two) &&
+           all_met(misplaced, of_two, sizeof of_two) && all_met(ors, of_two, sizeof of_two);
 }
 
 struct inputs {
@@ -539,6 +578,7 @@ static void print_met(void)
     print_counts("numbers met in reading texts", read_numbers, NUMBERS);
     print_counts("numbers met in writing texts", written_numbers, NUMBERS);
     printf("misplaced: policies in %lu, targets in %lu\n", misplaced[0], misplaced[1]);
+    printf("ors decided: of targets in %lu, of policies in %lu\n", ors[0], ors[1]);
     print_counts("sets met", sets, 8);
     print_counts("certificates met", rules, 8);
     print_counts("verdicts met", verdicts, 2);
@@ -547,7 +587,7 @@ static void print_met(void)
 
 int main(int count, char **argument)
 {
-    enum { LONG_RUN = 100000 }; /* a shorter one may miss a number */
+    enum { LONG_RUN = 100000 }; /* a shorter one may miss something */
     static struct inputs in;
     struct guarded memory[3] = {guarded_new(ROOM), guarded_new(ROOM), guarded_new(ROOM)};
     unsigned long trials = count > 1 ? strtoul(argument[1], NULL, 10) : 10000;
@@ -564,8 +604,8 @@ int main(int count, char **argument)
     }
     printf("%lu inputs, seven operations each, no difference\n", trials);
     print_met();
-    if (trials >= LONG_RUN && !every_number_met()) {
-        puts("a refusal of the documents was not met\n0 passed, 1 failed");
+    if (trials >= LONG_RUN && !everything_met()) {
+        puts("a refusal, set, certificate, verdict or node of the documents was not met\n0 passed, 1 failed");
         return 1;
     }
     puts("1 passed, 0 failed");

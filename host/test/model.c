@@ -55,14 +55,16 @@ static void begin(struct walk *w, struct policy *p)
 
 static int parts_of(unsigned tag)
 {
-    if (tag == 0x10 || tag == 0x20 || tag == 0x21)
-        return 0;
-    return tag == 0x13 || tag == 0x22 || tag == 0x25 ? 2 : 1;
+    switch (tag) {
+    case 0x10: case 0x20: case 0x21: return 0;
+    case 0x11: case 0x12: case 0x23: case 0x24: return 1;
+    default: return 2;
+    }
 }
 
 static int is_tag(int target, unsigned byte)
 {
-    return target ? byte >= 0x10 && byte <= 0x13 : byte >= 0x20 && byte <= 0x25;
+    return target ? byte >= 0x10 && byte <= 0x14 : byte >= 0x20 && byte <= 0x26;
 }
 
 /* Gives the slot due next a node of that tag, and its parts slots of their own; else the refusal's number. */
@@ -157,8 +159,8 @@ static const struct {
     uint8_t tag;
     const char *word;
 } words[] = {
-    {0x10, "tatom"}, {0x11, "tnot"}, {0x12, "topt"}, {0x13, "tand"}, {0x20, "pzero"},
-    {0x21, "pone"},  {0x22, "ptar"}, {0x23, "pnot"}, {0x24, "pdbd"}, {0x25, "pand"},
+    {0x10, "tatom"}, {0x11, "tnot"}, {0x12, "topt"}, {0x13, "tand"}, {0x14, "tor"},  {0x20, "pzero"},
+    {0x21, "pone"},  {0x22, "ptar"}, {0x23, "pnot"}, {0x24, "pdbd"}, {0x25, "pand"}, {0x26, "por"},
 };
 
 static const char *word_of(unsigned tag)
@@ -289,6 +291,16 @@ static size_t write_line(const struct policy *p, char *into)
 
 /* ---- meaning, by goal: what a target is, and whether a policy may come to a value */
 
+/* The value that either side of an and or an or can bring about alone. */
+static int wins(unsigned tag) { return tag == 0x13 || tag == 0x25 ? ZERO : ONE; }
+
+static int joined_value(int winner, int a, int b)
+{
+    if (a == winner || b == winner)
+        return winner;
+    return a == UNDEFINED || b == UNDEFINED ? UNDEFINED : 1 - winner;
+}
+
 static int target_value(const struct policy *p, int n, const struct request *q)
 {
     const struct node *t = &p->node[n];
@@ -310,14 +322,29 @@ static int target_value(const struct policy *p, int n, const struct request *q)
     default:
         a = target_value(p, t->first, q);
         b = target_value(p, t->second, q);
-        return a == ZERO || b == ZERO ? ZERO : a == UNDEFINED || b == UNDEFINED ? UNDEFINED : ONE;
+        return joined_value(wins(t->tag), a, b);
     }
+}
+
+static int may(const struct policy *p, int n, const struct request *q, int v);
+
+/* Either side brings about the value that wins; the other takes both sides; undefined takes one side, and the other not at what wins. */
+static int joined_may(const struct policy *p, const struct node *t, const struct request *q, int v)
+{
+    int winner = wins(t->tag), loser = 1 - winner;
+    if (v == winner)
+        return may(p, t->first, q, v) || may(p, t->second, q, v);
+    if (v == loser)
+        return may(p, t->first, q, v) && may(p, t->second, q, v);
+    if (may(p, t->first, q, UNDEFINED))
+        return may(p, t->second, q, UNDEFINED) || may(p, t->second, q, loser);
+    return may(p, t->second, q, UNDEFINED) && may(p, t->first, q, loser);
 }
 
 static int may(const struct policy *p, int n, const struct request *q, int v)
 {
     const struct node *t = &p->node[n];
-    int a, b, c;
+    int a;
     switch (t->tag) {
     case 0x20: return v == ZERO;
     case 0x21: return v == ONE;
@@ -326,17 +353,7 @@ static int may(const struct policy *p, int n, const struct request *q, int v)
         return a == ONE ? may(p, t->second, q, v) : v == UNDEFINED || (a == UNDEFINED && may(p, t->second, q, v));
     case 0x23: return may(p, t->first, q, v == UNDEFINED ? UNDEFINED : 1 - v);
     case 0x24: return v != UNDEFINED && (may(p, t->first, q, v) || (v == ZERO && may(p, t->first, q, UNDEFINED)));
-    default:
-        if (v == ONE)
-            return may(p, t->first, q, ONE) && may(p, t->second, q, ONE);
-        if (v == ZERO)
-            return may(p, t->first, q, ZERO) || may(p, t->second, q, ZERO);
-        a = may(p, t->first, q, UNDEFINED);
-        b = may(p, t->second, q, UNDEFINED);
-        if (a && b)
-            return 1;
-        c = a ? may(p, t->second, q, ONE) : b ? may(p, t->first, q, ONE) : 0;
-        return c;
+    default: return joined_may(p, t, q, v);
     }
 }
 
@@ -398,6 +415,7 @@ static size_t write_file(const uint32_t *pair, int count, uint8_t *into)
 
 /* ---- structural rules */
 
+/* Of an and or an or: the value that wins takes both sides never at it, the other takes one side. */
 static int never(const struct policy *p, int n, int v)
 {
     const struct node *t = &p->node[n];
@@ -408,7 +426,7 @@ static int never(const struct policy *p, int n, int v)
     case 0x23: return never(p, t->first, 1 - v);
     case 0x24: return v == ONE && never(p, t->first, ONE);
     default:
-        return v == ONE ? never(p, t->first, v) || never(p, t->second, v) : never(p, t->first, v) && never(p, t->second, v);
+        return v == wins(t->tag) ? never(p, t->first, v) && never(p, t->second, v) : never(p, t->first, v) || never(p, t->second, v);
     }
 }
 
@@ -434,6 +452,8 @@ static unsigned rule(const struct policy *p, int n)
         return 5;
     if (p->node[n].tag == 0x25 && rule(p, p->node[n].first) && rule(p, p->node[n].second))
         return 6;
+    if (p->node[n].tag == 0x26 && rule(p, p->node[n].first) && rule(p, p->node[n].second))
+        return 7;
     return 0;
 }
 
