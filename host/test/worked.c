@@ -1,4 +1,4 @@
-/* Document 01's worked policies and edges, document 02's written form and its telling of tags through the C face, all operations. */
+/* Document 01's worked policies and edges, document 02's written form, its telling of tags and its or through the C face, all operations. */
 #include "../sinkheron.h"
 
 #include <stdio.h>
@@ -66,7 +66,8 @@ static uint64_t exposed(unsigned pairs, unsigned bytes, uint64_t m, uint64_t i)
 static uint64_t resistant(unsigned pairs) { return (uint64_t)pairs << 16; }
 
 static const char *A = "23 24 23 22 10 0001 0001 20", *B = "24 22 10 0001 0002 21", *C = "22 11 10 0001 0001 21",
-                  *D = "22 11 12 10 0001 0001 21", *E = "23 23 24 22 10 0001 0002 21", *F = "21";
+                  *D = "22 11 12 10 0001 0001 21", *E = "23 23 24 22 10 0001 0002 21", *F = "21",
+                  *G = "24 22 14 10 0001 0002 10 0002 0001 21"; /* allow only if the column is verified or a supervisor is present */
 
 static void sets(void)
 {
@@ -75,6 +76,7 @@ static void sets(void)
         {A, "", 3}, {A, "00010002", 1}, {A, "00010001", 2}, {A, "00010001 00010002", 2},
         {B, "", 3}, {B, "00010002", 1}, {B, "00010001", 2}, {B, "00010001 00010002", 1},
         {C, "00010000", 1}, {C, "00010000 00010001", 4}, {D, "", 1}, {F, "", 1}, {"20", "", 2},
+        {G, "", 3}, {G, "00010002", 1}, {G, "00020001", 1}, {G, "00010001", 3}, {G, "00010001 00020001", 1}, {G, "00010001 00020000", 2},
     };
     for (size_t k = 0; k < sizeof row / sizeof *row; k++) {
         file(&p, row[k].policy);
@@ -92,9 +94,10 @@ static void verdicts(void)
 {
     static struct file p;
     const struct { const char *policy; unsigned rule; } row[] = {
-        {A, 0}, {B, 4}, {C, 0}, {D, 0}, {E, 0}, {F, 2}, {"20", 1},
+        {A, 0}, {B, 4}, {C, 0}, {D, 0}, {E, 0}, {F, 2}, {"20", 1}, {G, 4},
     };
-    const uint64_t search[] = {exposed(2, 18, 3, 1), resistant(2), exposed(2, 18, 3, 1), exposed(2, 10, 2, 1), resistant(2), resistant(0), resistant(0)};
+    const uint64_t search[] = {exposed(2, 18, 3, 1), resistant(2), exposed(2, 18, 3, 1), exposed(2, 10, 2, 1),
+                               resistant(2), resistant(0), resistant(0), resistant(4)};
     uint8_t space[130];
     for (size_t k = 0; k < sizeof row / sizeof *row; k++) {
         file(&p, row[k].policy);
@@ -186,29 +189,29 @@ static void edges(void)
     expect("65,538 bytes", sinkheron_certify(p.bytes, 65538), refused(8, 4));
 }
 
-/* 128 leaves under 127 ands are 255 nodes; a not over them is a 256th. */
-static void tree(struct file *f, unsigned leaves)
+/* 128 leaves under 127 ands or ors are 255 nodes; a not over them is a 256th. */
+static void tree(struct file *f, uint8_t join, unsigned leaves)
 {
     if (leaves > 1) {
-        f->bytes[f->length++] = 0x25;
-        tree(f, leaves / 2);
-        tree(f, leaves - leaves / 2);
+        f->bytes[f->length++] = join;
+        tree(f, join, leaves / 2);
+        tree(f, join, leaves - leaves / 2);
     } else {
         f->bytes[f->length++] = 0x21;
     }
 }
 
-static void most_nodes(void)
+static void most_nodes(uint8_t join)
 {
     static struct file p;
     p.length = 3;
-    tree(&p, 128);
+    tree(&p, join, 128);
     p.bytes[0] = 1;
     p.bytes[1] = 0;
     p.bytes[2] = 255;
     expect("255 nodes are read", sinkheron_certify(p.bytes, 258), (uint64_t)2 << 12);
     p.length = 4;
-    tree(&p, 128);
+    tree(&p, join, 128);
     p.bytes[1] = 1;
     p.bytes[2] = 0;
     p.bytes[3] = 0x23;
@@ -283,10 +286,12 @@ static void unread_files(void)
     f.bytes[0] = 2;
     expect_unread("A of version 2", &f, f.length, refused(2, 0));
     const struct { const char *body; unsigned number; uint64_t place; } row[] = {
-        {"23", 4, 4}, {"22", 4, 4}, {"22 10 0001 00", 4, 8}, {"21 21", 8, 4}, {"21 10", 8, 4}, {"21 26", 8, 4},
-        {"10", 15, 3}, {"10 0001 00", 15, 3}, {"22 20", 15, 4}, {"26", 5, 3}, {"22 26", 5, 4},
-        {"25 26 10", 5, 4}, {"25 10 26", 15, 4}, {"22 26 10", 5, 4}, {"22 20 26", 15, 4},
-        {"22 10 2021 1011 26", 5, 9}, {"22 10 2021 1011 13", 15, 9},
+        {"23", 4, 4}, {"22", 4, 4}, {"22 10 0001 00", 4, 8}, {"21 21", 8, 4}, {"21 10", 8, 4}, {"21 27", 8, 4},
+        {"10", 15, 3}, {"10 0001 00", 15, 3}, {"22 20", 15, 4}, {"27", 5, 3}, {"22 27", 5, 4},
+        {"25 27 10", 5, 4}, {"25 10 27", 15, 4}, {"22 27 10", 5, 4}, {"22 20 27", 15, 4},
+        {"22 10 2021 1011 27", 5, 9}, {"22 10 2021 1011 13", 15, 9},
+        {"26", 4, 4}, {"26 21", 4, 5}, {"22 14", 4, 5}, {"22 14 10 0001 0001", 4, 10}, {"26 21 21 21", 8, 6}, {"21 26", 8, 4},
+        {"14", 15, 3}, {"22 26", 15, 4}, {"26 14 27", 15, 4}, {"26 27 14", 5, 4}, {"22 14 26 15", 15, 5}, {"22 14 15 26", 5, 5},
     };
     for (size_t k = 0; k < sizeof row / sizeof *row; k++) {
         file(&f, row[k].body);
@@ -315,14 +320,17 @@ enum { POLICY, TARGET, NEITHER };
 #define ATOM " 10 0001 0001 "
 static const struct slot { int sort; const char *before, *behind; } slots[] = {
     {POLICY, "", ""}, {POLICY, "23", ""}, {POLICY, "24", ""}, {POLICY, "25", "20"}, {POLICY, "25 20", ""}, {POLICY, "22" ATOM, ""},
+    {POLICY, "26", "20"}, {POLICY, "26 20", ""},
     {TARGET, "22", "20"}, {TARGET, "22 11", "20"}, {TARGET, "22 12", "20"}, {TARGET, "22 13", ATOM "20"}, {TARGET, "22 13" ATOM, "20"},
+    {TARGET, "22 14", ATOM "20"}, {TARGET, "22 14" ATOM, "20"},
 };
 
 /* The tags, each with what makes a whole node of it, and bytes beside them that are none. */
 static const struct met { int sort; const char *byte, *parts; } bytes_met[] = {
-    {TARGET, "10", "0001 0001"}, {TARGET, "11", ATOM}, {TARGET, "12", ATOM}, {TARGET, "13", ATOM ATOM}, {POLICY, "20", ""}, {POLICY, "21", ""},
-    {POLICY, "22", ATOM "20"}, {POLICY, "23", "20"}, {POLICY, "24", "20"}, {POLICY, "25", "20 20"},
-    {NEITHER, "00", ""}, {NEITHER, "0f", ""}, {NEITHER, "14", ""}, {NEITHER, "1f", ""}, {NEITHER, "26", ""}, {NEITHER, "ff", ""},
+    {TARGET, "10", "0001 0001"}, {TARGET, "11", ATOM}, {TARGET, "12", ATOM}, {TARGET, "13", ATOM ATOM}, {TARGET, "14", ATOM ATOM},
+    {POLICY, "20", ""}, {POLICY, "21", ""}, {POLICY, "22", ATOM "20"}, {POLICY, "23", "20"}, {POLICY, "24", "20"}, {POLICY, "25", "20 20"},
+    {POLICY, "26", "20 20"},
+    {NEITHER, "00", ""}, {NEITHER, "0f", ""}, {NEITHER, "15", ""}, {NEITHER, "1f", ""}, {NEITHER, "27", ""}, {NEITHER, "ff", ""},
 };
 
 /* A node of the sort due is read; one of the other sort is 15 at its tag, and a byte that is no tag 5 there. */
@@ -352,8 +360,8 @@ static void deep_tags(void)
 {
     static struct file f;
     const struct { size_t nots; const char *end; unsigned number; } row[] = {
-        {32, "20", 6}, {32, "10 0001 0001", 15}, {32, "13", 15}, {32, "14", 5}, {32, "26", 5},
-        {31, "22 10 0001 0001 20", 6}, {31, "22 20", 15}, {31, "22 25", 15}, {31, "22 14", 5}, {31, "22 26", 5},
+        {32, "20", 6}, {32, "26", 6}, {32, "10 0001 0001", 15}, {32, "14", 15}, {32, "15", 5}, {32, "27", 5},
+        {31, "22 10 0001 0001 20", 6}, {31, "22 14", 6}, {31, "22 20", 15}, {31, "22 26", 15}, {31, "22 15", 5}, {31, "22 27", 5},
     };
     for (size_t k = 0; k < sizeof row / sizeof *row; k++) {
         repeated(&f, 0x23, row[k].nots, row[k].end);
@@ -361,12 +369,47 @@ static void deep_tags(void)
     }
 }
 
-/* An and, a tree on its left, nots on its right and one node more are 255 nodes; then a byte. */
-static void fill(struct file *f, unsigned nots, uint8_t last, uint8_t byte)
+static void append_hex(char *body, const char *part, unsigned times)
+{
+    while (times-- > 0)
+        strcat(body, part);
+}
+
+/* So many ors, each the left side of the one before, and their leaves. */
+static void nest(struct file *f, const char *front, const char *or, const char *leaf, unsigned ors, const char *end)
+{
+    char body[600] = "";
+    append_hex(body, front, 1);
+    append_hex(body, or, ors);
+    append_hex(body, leaf, ors + 1);
+    append_hex(body, end, 1);
+    file(f, body);
+}
+
+/* The leaves of 31 ors of policies are at depth 32, and so are those of 30 ors of targets under a targeted node. */
+static void deep_ors(void)
+{
+    static struct file f;
+    nest(&f, "", "26 ", "21 ", 31, "");
+    expect_read("31 ors of policies", &f);
+    nest(&f, "", "26 ", "21 ", 32, "");
+    expect_unread("32 ors of policies", &f, f.length, refused(6, 35));
+    nest(&f, "22 ", "14 ", ATOM, 30, "21");
+    expect_read("30 ors of targets", &f);
+    nest(&f, "22 ", "14 ", ATOM, 31, "21");
+    expect_unread("31 ors of targets", &f, f.length, refused(6, 35));
+    nest(&f, "", "26 21 ", "", 31, "21");
+    expect_read("31 ors on the right", &f);
+    nest(&f, "", "26 21 ", "", 32, "21");
+    expect_unread("32 ors on the right", &f, f.length, refused(6, 66));
+}
+
+/* An and or an or, a tree of them on its left, nots on its right and one node more are 255 nodes; then a byte. */
+static void fill(struct file *f, uint8_t join, unsigned nots, uint8_t last, uint8_t byte)
 {
     f->length = 3;
-    f->bytes[f->length++] = 0x25;
-    tree(f, (254 - nots) / 2);
+    f->bytes[f->length++] = join;
+    tree(f, join, (254 - nots) / 2);
     memset(f->bytes + f->length, 0x23, nots);
     f->length += nots;
     f->bytes[f->length++] = last;
@@ -375,21 +418,243 @@ static void fill(struct file *f, unsigned nots, uint8_t last, uint8_t byte)
 }
 
 /* Behind 255 nodes one of the sort due is 7, at depth 33 even there 6. */
-static void tags_behind_255_nodes(void)
+static void tags_behind_255_nodes(uint8_t join)
 {
     static struct file f;
     enum { LIMIT = 0 };
     static const struct { unsigned nots, number; } limit[] = {{28, 7}, {30, 6}};
     static const struct { uint8_t last, byte; unsigned number; } row[] = {
-        {0x23, 0x20, LIMIT}, {0x23, 0x10, 15}, {0x23, 0x13, 15}, {0x23, 0x14, 5}, {0x23, 0x26, 5},
-        {0x22, 0x10, LIMIT}, {0x22, 0x20, 15}, {0x22, 0x25, 15}, {0x22, 0x14, 5}, {0x22, 0x26, 5},
+        {0x23, 0x20, LIMIT}, {0x23, 0x26, LIMIT}, {0x23, 0x10, 15}, {0x23, 0x14, 15}, {0x23, 0x15, 5}, {0x23, 0x27, 5},
+        {0x22, 0x10, LIMIT}, {0x22, 0x14, LIMIT}, {0x22, 0x20, 15}, {0x22, 0x26, 15}, {0x22, 0x15, 5}, {0x22, 0x27, 5},
     };
     for (size_t n = 0; n < sizeof limit / sizeof *limit; n++)
         for (size_t k = 0; k < sizeof row / sizeof *row; k++) {
-            fill(&f, limit[n].nots, row[k].last, row[k].byte);
+            fill(&f, join, limit[n].nots, row[k].last, row[k].byte);
             unsigned number = row[k].number == LIMIT ? limit[n].number : row[k].number;
             expect_unread("a byte behind 255 nodes", &f, f.length, refused(number, 258));
         }
+}
+
+/* ---- an or */
+
+#define OTHER " 10 0002 0001 "
+
+static uint64_t decided(const char *policy, const char *request)
+{
+    static struct file p, q;
+    file(&p, policy);
+    file(&q, request);
+    return sinkheron_decide(p.bytes, p.length, q.bytes, q.length);
+}
+
+/* A targeted allow tells its target's value: 1 by allow alone, 0 by undefined alone, undefined by both. */
+static void ors_of_values(void)
+{
+    enum { ONE = 1, ZERO = 4, UNDEFINED = 5 };
+    static const struct { const char *request; unsigned value; } row[] = {
+        {"00010001 00020001", ONE}, {"00010001 00020000", ONE}, {"00010001", ONE},
+        {"00010000 00020001", ONE}, {"00010000 00020000", ZERO}, {"00010000", UNDEFINED},
+        {"00020001", ONE}, {"00020000", UNDEFINED}, {"", UNDEFINED},
+    };
+    for (size_t k = 0; k < sizeof row / sizeof *row; k++)
+        expect("or of values", decided("22 14" ATOM OTHER "21", row[k].request), (uint64_t)row[k].value << 8);
+}
+
+/* Policies that come to the sets 1 to 7 at the empty request, and the or of each two. */
+static void ors_of_sets(void)
+{
+    enum { SETS = 7 };
+    static const char *const side[SETS] = {
+        "21", "20", "24 22" ATOM "21", "22 12" ATOM "21", "22" ATOM "21", "22" ATOM "20", "22" ATOM "24 22" ATOM "21",
+    };
+    static const uint8_t wanted[SETS][SETS] = {
+        {1, 1, 1, 1, 1, 1, 1}, {1, 2, 3, 4, 5, 6, 7}, {1, 3, 3, 5, 5, 7, 7}, {1, 4, 5, 4, 5, 4, 5},
+        {1, 5, 5, 5, 5, 5, 5}, {1, 6, 7, 4, 5, 6, 7}, {1, 7, 7, 5, 5, 7, 7},
+    };
+    for (unsigned k = 0; k < SETS * SETS; k++) {
+        char body[100];
+        sprintf(body, "26 %s %s", side[k / SETS], side[k % SETS]);
+        expect(body, decided(body, ""), (uint64_t)wanted[k / SETS][k % SETS] << 8);
+    }
+}
+
+/* The subset m of (1,0), (1,1), (2,0) and (2,1) as a request's body. */
+static void subset_of_four(char *body, unsigned m)
+{
+    static const char *const pair[] = {"00010000", "00010001", "00020000", "00020001"};
+    *body = 0;
+    for (unsigned k = 0; k < 4; k++)
+        strcat(body, m >> k & 1 ? pair[k] : "");
+}
+
+/* The two come to the same sets, and to the same verdict with the same files. */
+static void expect_same(const char *body, const char *other)
+{
+    static struct file p, r;
+    uint8_t space[130], space_of_other[130];
+    memset(space, KEPT, sizeof space);
+    memset(space_of_other, KEPT, sizeof space_of_other);
+    file(&p, body);
+    file(&r, other);
+    expect(body, sinkheron_search(p.bytes, p.length, space, sizeof space),
+           sinkheron_search(r.bytes, r.length, space_of_other, sizeof space_of_other));
+    expect_bytes(body, space, space_of_other, sizeof space);
+    for (unsigned m = 0; m < 16; m++) {
+        char request[40];
+        subset_of_four(request, m);
+        expect(body, decided(body, request), decided(other, request));
+    }
+}
+
+/* An or is not(and(not, not)), wherever it stands. */
+static void ors_by_and(void)
+{
+    static const struct { int sort; const char *before, *left, *right, *behind; } row[] = {
+        {TARGET, "24 22", ATOM, OTHER, "21"}, {TARGET, "22 11", ATOM, OTHER, "21"}, {TARGET, "23 24 23 22", ATOM, "12" OTHER, "20"},
+        {TARGET, "22 12", "11" ATOM, OTHER, "24 22" ATOM "21"}, {TARGET, "22 13" ATOM, "11" OTHER, ATOM, "20"},
+        {POLICY, "", "22" ATOM "20", "22" OTHER "21", ""}, {POLICY, "24", "22 11" ATOM "21", "22" OTHER "21", ""},
+        {POLICY, "23", "23 24 23 22" ATOM "20", "24 22" OTHER "21", ""}, {POLICY, "25 21", "22" ATOM "20", "20", ""},
+    };
+    static const char *const by_or[] = {"%s 26 %s %s %s", "%s 14 %s %s %s"};
+    static const char *const by_and[] = {"%s 23 25 23 %s 23 %s %s", "%s 11 13 11 %s 11 %s %s"};
+    for (size_t k = 0; k < sizeof row / sizeof *row; k++) {
+        char body[150], other[150];
+        sprintf(body, by_or[row[k].sort], row[k].before, row[k].left, row[k].right, row[k].behind);
+        sprintf(other, by_and[row[k].sort], row[k].before, row[k].left, row[k].right, row[k].behind);
+        expect_same(body, other);
+    }
+}
+
+struct certificate {
+    const char *body;
+    unsigned rule;
+};
+
+/* A certificate's number; and what is certified is resistant. */
+static void expect_certificates(const struct certificate *row, size_t count)
+{
+    static struct file p;
+    uint8_t space[130];
+    for (size_t k = 0; k < count; k++) {
+        file(&p, row[k].body);
+        expect(row[k].body, sinkheron_certify(p.bytes, p.length), (uint64_t)row[k].rule << 12);
+        uint64_t word = sinkheron_search(p.bytes, p.length, space, sizeof space);
+        expect(row[k].body, sinkheron_number(word) == 0 && (row[k].rule == 0 || sinkheron_verdict(word) == 0), 1);
+    }
+}
+
+/* A targeted node that rules 3 and 4 do not like. */
+#define UNPLAIN " 22 11" ATOM
+
+/* Never allows takes both sides. Never denies takes either; it is told by a not over the or, which then never allows. */
+static void never_by_or(void)
+{
+    static const struct certificate allows[] = {
+        {"26 20 20", 1}, {"26" UNPLAIN "20" UNPLAIN "20", 1}, {"26 23" UNPLAIN "21 24" UNPLAIN "20", 1}, {"22 11" ATOM "26 20 20", 1},
+        {"26" UNPLAIN "20 21", 7}, {"26 21" UNPLAIN "20", 7}, {"26" UNPLAIN "20" UNPLAIN "21", 0}, {"26" UNPLAIN "21" UNPLAIN "20", 0},
+    };
+    static const struct certificate denies[] = {
+        {"23 26 21" UNPLAIN "20", 1}, {"23 26" UNPLAIN "20 21", 1}, {"23 26" UNPLAIN "21" UNPLAIN "21", 1},
+        {"23 26 23" UNPLAIN "20" UNPLAIN "20", 1}, {"23 26" UNPLAIN "20" UNPLAIN "20", 0}, {"23 26 24" UNPLAIN "21" UNPLAIN "20", 0},
+        {"23 25 21" UNPLAIN "20", 0}, {"26" UNPLAIN "21 21", 0},
+    };
+    expect_certificates(allows, sizeof allows / sizeof *allows);
+    expect_certificates(denies, sizeof denies / sizeof *denies);
+}
+
+#define BY_3 " 23 22" ATOM "20 "
+#define BY_4 " 24 22" ATOM "21 "
+#define BY_5 " 24 23 22" ATOM "20 "
+#define BY_6 " 25" BY_4 BY_3
+#define BY_7 " 26" BY_4 BY_3
+
+static void certificates_by_or(void)
+{
+    static const struct certificate smaller[] = {
+        {"26 20 21", 2}, {"24 26 20 23 20", 2}, {"26" BY_3 "22" OTHER "21", 3}, {"26" BY_4 "22" OTHER "21", 4}, {"24" BY_7, 5},
+    };
+    static const struct certificate plain[] = {
+        {"22 14" ATOM OTHER "21", 3}, {"22 12 14" ATOM "14" OTHER "13" ATOM OTHER "21", 3}, {"24 22 14" ATOM "12" OTHER "21", 4},
+        {"22 14 11" ATOM OTHER "21", 0}, {"22 14" ATOM "11" OTHER "21", 0}, {"22 11 14" ATOM OTHER "21", 0},
+        {"24 22 14" ATOM "14 11" OTHER ATOM "21", 0},
+    };
+    static const struct certificate two[] = {
+        {BY_7, 7}, {"26" BY_3 BY_4, 7}, {"26" BY_5 "20", 7}, {"26 21" BY_5, 7}, {"26" BY_5 BY_5, 7}, {"26" BY_6 BY_6, 7}, {"26" BY_7 BY_7, 7},
+        {"25" BY_7 "21", 6}, {"25 21" BY_7, 6}, {"25" BY_7 BY_7, 6}, {BY_6, 6}, {BY_5, 5},
+    };
+    static const struct certificate one_or_none[] = {
+        {"26" UNPLAIN "21" BY_4, 0}, {"26" BY_4 UNPLAIN "21", 0}, {"26" UNPLAIN "21" BY_7, 0}, {"26" BY_7 UNPLAIN "21", 0},
+        {"26" UNPLAIN "21" UNPLAIN "21", 0}, {"25" BY_7 UNPLAIN "21", 0}, {"25" UNPLAIN "21" BY_7, 0}, {"24 26" BY_7 UNPLAIN "21", 0},
+        {"22" ATOM BY_7, 0}, {"23 26" BY_4 BY_4, 0},
+    };
+    expect_certificates(smaller, sizeof smaller / sizeof *smaller);
+    expect_certificates(plain, sizeof plain / sizeof *plain);
+    expect_certificates(two, sizeof two / sizeof *two);
+    expect_certificates(one_or_none, sizeof one_or_none / sizeof *one_or_none);
+}
+
+static void pairs_through_or(void)
+{
+    static struct file p, q;
+    static const uint32_t wanted[] = {0x00000, 0x00001, 0x10000, 0x10002, 0x10003, 0x20000, 0x20001};
+    static const uint8_t normal[] = {1, 0, 16, 0, 0, 0, 1, 0, 1, 0, 0, 0, 1, 0, 3, 0, 2, 0, 1};
+    uint32_t pairs[7];
+    uint8_t space[sizeof normal];
+    file(&p, "26 22 14 10 0001 0002" OTHER "21 22 14 10 0001 0003 10 0000 0000 20");
+    expect("pairs through ors", sinkheron_list_pairs(p.bytes, p.length, pairs, 7), (uint64_t)7 << 16);
+    expect_bytes("the pairs through ors", (const uint8_t *)pairs, (const uint8_t *)wanted, sizeof wanted);
+    file(&q, "00000005 00010003 00010009 00020001 00030001");
+    expect("normal form through ors", sinkheron_normal_form(p.bytes, p.length, q.bytes, q.length, space, sizeof space), (uint64_t)19 << 32);
+    expect_bytes("its file", space, normal, sizeof normal);
+}
+
+/* Of each the first exposure, and the two requests that show it. */
+static void exposures_through_or(void)
+{
+    static struct file p;
+    static const struct { const char *body; unsigned m, i; size_t length; uint8_t files[26]; } row[] = {
+        {"22 11 14" ATOM OTHER "21", 7, 1, 26, {1, 0, 8, 0, 1, 0, 0, 0, 2, 0, 0, 1, 0, 12, 0, 1, 0, 0, 0, 1, 0, 1, 0, 2, 0, 0}},
+        {"26 22 11" OTHER "21 22" ATOM "21", 12, 3, 18, {1, 0, 4, 0, 2, 0, 0, 1, 0, 8, 0, 2, 0, 0, 0, 2, 0, 1}},
+    };
+    for (size_t k = 0; k < sizeof row / sizeof *row; k++) {
+        uint8_t space[130];
+        memset(space, KEPT, sizeof space);
+        file(&p, row[k].body);
+        expect(row[k].body, sinkheron_search(p.bytes, p.length, space, sizeof space), exposed(4, (unsigned)row[k].length, row[k].m, row[k].i));
+        expect_bytes(row[k].body, space, row[k].files, row[k].length);
+        expect(row[k].body, (uint64_t)is_kept(space + row[k].length, space + sizeof space), 1);
+    }
+}
+
+/* Of eight names, so of 16 pairs: allow if it is known of each name that it is not 1; allow if it is known of some name. */
+static void wide_exposures_through_or(void)
+{
+    static struct file p;
+    uint8_t space[130];
+    char targets[300] = "22 11 ", policies[300] = "", one[40];
+    for (int k = 1; k <= 8; k++) {
+        sprintf(one, "%s 10 %04x 0001 ", k < 8 ? "14" : "", k);
+        strcat(targets, one);
+        sprintf(one, "%s 22 11 10 %04x 0001 21 ", k < 8 ? "26" : "", k);
+        strcat(policies, one);
+    }
+    strcat(targets, "21");
+    file(&p, targets);
+    expect("an or of eight targets", sinkheron_search(p.bytes, p.length, space, sizeof space), exposed(16, 74, 0x5557, 1));
+    file(&p, policies);
+    expect("an or of eight policies", sinkheron_search(p.bytes, p.length, space, sizeof space), exposed(16, 18, 3, 1));
+}
+
+static void an_or(void)
+{
+    ors_of_values();
+    ors_of_sets();
+    ors_by_and();
+    never_by_or();
+    certificates_by_or();
+    pairs_through_or();
+    exposures_through_or();
+    wide_exposures_through_or();
 }
 
 /* ---- the written form */
@@ -463,6 +728,9 @@ static void lines(void)
         {"pone\n", F},
         {"pzero\n", "20"},
         {"pand pzero ptar tand tatom 0 65535 topt tatom 256 10 pone\n", "25 20 22 13 10 0000 ffff 12 10 0100 000a 21"},
+        {"pdbd ptar tor tatom 1 2 tatom 2 1 pone\n", G},
+        {"por pzero por ptar tor tnot tatom 0 65535 tor tatom 1 2 tand tatom 3 4 tatom 5 6 pone pand pone por pzero pone\n",
+         "26 20 26 22 14 11 10 0000 ffff 14 10 0001 0002 13 10 0003 0004 10 0005 0006 21 25 21 26 20 21"},
     };
     for (size_t k = 0; k < sizeof row / sizeof *row; k++) {
         text(&t, row[k].line);
@@ -491,10 +759,15 @@ static void texts_with_another_word(void)
     static const struct fault word[] = {
         {"tatom 1 1\n", 0}, {"ptar pzero pzero\n", 5}, {"ptar tnot pone pzero\n", 10}, {"ptar tatom 1 1 tatom 1 1\n", 15}, {"7\n", 0},
         {"pzer\n", 0}, {"pzeros\n", 0}, {"pnot Pzero\n", 5}, {"pnot p", 5}, {"pnot pon\xe9\n", 5}, {"pzero\r\n", 0}, {"pnot\tpzero\n", 0},
+        {"tor tatom 1 1 tatom 1 1\n", 0}, {"por tor pone\n", 4}, {"por pone tor\n", 9}, {"ptar por pone pone\n", 5}, {"ptar tor por\n", 9},
+        {"ptar tor tatom 1 1 pone\n", 19}, {"ptar tatom 1 1 tor\n", 15}, {"po pone pone\n", 0}, {"pora pone pone\n", 0}, {"or pone pone\n", 0},
+        {"porpone pone\n", 0}, {"por\tpone pone\n", 0}, {"Por pone pone\n", 0}, {"ptar to", 5}, {"ptar tors", 5}, {"ptar tar", 5},
     };
-    static const struct fault no_word[] = {{"\n", 0}, {" pzero\n", 0}, {"pnot  pzero\n", 5}, {"pnot \n", 5}, {"pand pone \n", 10}};
+    static const struct fault no_word[] = {{"\n", 0}, {" pzero\n", 0}, {"pnot  pzero\n", 5}, {"pnot \n", 5}, {"pand pone \n", 10},
+                                           {"por  pone pone\n", 4}, {"por pone \n", 9}, {"ptar tor  tatom 1 1\n", 9}};
     static const struct fault no_space[] = {
         {"pnot\npzero\n", 4}, {"ptar tatom\n1 1 pone\n", 10}, {"ptar tatom 1\n1 pone\n", 12}, {"ptar tatom 1 1\npone\n", 14},
+        {"por\npone pone\n", 3}, {"por pone\npone\n", 8}, {"ptar tor\n", 8},
     };
     expect_each_refused(51, word, sizeof word / sizeof *word);
     expect_each_refused(51, no_word, sizeof no_word / sizeof *no_word);
@@ -521,6 +794,8 @@ static void texts_that_end_early(void)
 {
     static const struct fault row[] = {
         {"", 0}, {"pnot ", 5}, {"ptar tatom 1 1 ", 15}, {"pnot", 4}, {"ptar tatom", 10}, {"ptar tatom 1", 12}, {"ptar tatom 1 1", 14}, {"pzero", 5},
+        {"por", 3}, {"por ", 4}, {"por pone", 8}, {"por pone ", 9}, {"por pone pone", 13}, {"ptar tor", 8}, {"ptar tor ", 9},
+        {"ptar tor tatom 1 1 ", 19},
     };
     expect_each_refused(53, row, sizeof row / sizeof *row);
 }
@@ -529,7 +804,7 @@ static void texts_that_go_on(void)
 {
     static const struct fault row[] = {
         {"pzero \n", 5}, {"pzero ", 5}, {"pzero pzero\n", 5}, {"ptar tatom 1 1 pone pone\n", 19},
-        {"pzero\n\n", 6}, {"pzero\npzero\n", 6}, {"pzero\n ", 6},
+        {"pzero\n\n", 6}, {"pzero\npzero\n", 6}, {"pzero\n ", 6}, {"por pone pone pone\n", 13}, {"por pone pone\n\n", 14},
     };
     expect_each_refused(54, row, sizeof row / sizeof *row);
 }
@@ -589,27 +864,63 @@ static void deep_texts(void)
     expect_refused("a target at depth 33", &t, 6, 32 * 5);
 }
 
-/* A tree of ands of so many leaves: twice as many words less one, each of five bytes with the space behind it. */
-static void append_tree(struct text *t, unsigned leaves)
+/* Nested ors as in deep_ors. */
+static void deep_or_texts(void)
+{
+    static struct file f;
+    static struct text t;
+    text(&t, "");
+    append_times(&t, "por ", 31);
+    append_times(&t, "pone ", 31);
+    append(&t, "pone\n");
+    nest(&f, "", "26 ", "21 ", 31, "");
+    expect_both_forms("31 ors of policies as text", &t, &f);
+    text(&t, "ptar ");
+    append_times(&t, "tor ", 30);
+    append_times(&t, "tatom 1 1 ", 31);
+    append(&t, "pone\n");
+    nest(&f, "22 ", "14 ", ATOM, 30, "21");
+    expect_both_forms("30 ors of targets as text", &t, &f);
+    text(&t, "");
+    append_times(&t, "por ", 32);
+    append(&t, "pone\n");
+    expect_refused("32 ors of policies as text", &t, 6, 32 * 4);
+    text(&t, "ptar ");
+    append_times(&t, "tor ", 31);
+    append(&t, "tatom 1 1\n");
+    expect_refused("31 ors of targets as text", &t, 6, 5 + 31 * 4);
+}
+
+/* An and or an or as a byte and as a word with the space behind it. */
+struct join {
+    uint8_t tag;
+    const char *word;
+};
+
+static const struct join ands = {0x25, "pand "}, ors = {0x26, "por "};
+
+/* A tree of so many leaves: twice as many words less one. */
+static void append_tree(struct text *t, const struct join *join, unsigned leaves)
 {
     if (leaves > 1) {
-        append(t, "pand ");
-        append_tree(t, leaves / 2);
-        append_tree(t, leaves - leaves / 2);
+        append(t, join->word);
+        append_tree(t, join, leaves / 2);
+        append_tree(t, join, leaves - leaves / 2);
     } else {
         append(t, "pone ");
     }
 }
 
-static void broad_texts(void)
+/* `last` is the place of the 256th word, where a not stands over 255. */
+static void broad_texts(const struct join *join, uint64_t last)
 {
     static struct file f;
     static struct text t;
     f.length = 3;
-    tree(&f, 128);
+    tree(&f, join->tag, 128);
     memcpy(f.bytes, "\1\0\377", 3);
     text(&t, "");
-    append_tree(&t, 128);
+    append_tree(&t, join, 128);
     t.bytes[t.length - 1] = '\n';
     expect_both_forms("255 nodes as text", &t, &f);
     const struct { const char *what, *end; unsigned number; } row[] = {
@@ -617,26 +928,26 @@ static void broad_texts(void)
     };
     for (size_t k = 0; k < sizeof row / sizeof *row; k++) {
         text(&t, "pnot ");
-        append_tree(&t, 128);
+        append_tree(&t, join, 128);
         t.length -= 5;
         append(&t, row[k].end);
-        expect_refused(row[k].what, &t, row[k].number, 255 * 5);
+        expect_refused(row[k].what, &t, row[k].number, last);
     }
 }
 
-/* An and, 223 nodes on its left and 31 nots on its right are 255; the next word is the 256th and at depth 33. */
-static void deep_and_broad_texts(void)
+/* An and or an or, 223 nodes on its left and 31 nots on its right are 255; the next word, at `last`, is the 256th and at depth 33. */
+static void deep_and_broad_texts(const struct join *join, uint64_t last)
 {
     static struct text t;
     const struct { const char *what, *end; unsigned number; } row[] = {
         {"6 before 7", "pone\n", 6}, {"51 before 6 and 7", "pona\n", 51},
     };
     for (size_t k = 0; k < sizeof row / sizeof *row; k++) {
-        text(&t, "pand ");
-        append_tree(&t, 112);
+        text(&t, join->word);
+        append_tree(&t, join, 112);
         append_times(&t, "pnot ", 31);
         append(&t, row[k].end);
-        expect_refused(row[k].what, &t, row[k].number, 255 * 5);
+        expect_refused(row[k].what, &t, row[k].number, last);
     }
 }
 
@@ -711,12 +1022,16 @@ int main(void)
     files_of_A();
     pairs_and_normal_forms();
     edges();
-    most_nodes();
+    most_nodes(0x25);
+    most_nodes(0x26);
     unread_files();
     policy_before_request();
     told_tags();
     deep_tags();
-    tags_behind_255_nodes();
+    deep_ors();
+    tags_behind_255_nodes(0x25);
+    tags_behind_255_nodes(0x26);
+    an_or();
     lines();
     texts_with_another_word();
     texts_without_a_number();
@@ -725,8 +1040,11 @@ int main(void)
     texts_with_a_zero_byte();
     long_texts();
     deep_texts();
-    broad_texts();
-    deep_and_broad_texts();
+    deep_or_texts();
+    broad_texts(&ands, 1275);
+    broad_texts(&ors, 1148);
+    deep_and_broad_texts(&ands, 1275);
+    deep_and_broad_texts(&ors, 1163);
     longest();
     no_space();
     nulls();
