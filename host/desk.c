@@ -86,8 +86,8 @@ static const struct {
     char letter;
     const char *name, *choice;
 } kinds[] = {
-    {'p', "a policy", "pzero, pone, ptar, pnot, pdbd or pand"},
-    {'t', "a target", "tatom, tnot, topt or tand"},
+    {'p', "a policy", "pzero, pone, ptar, pnot, pdbd, pand or por"},
+    {'t', "a target", "tatom, tnot, topt, tand or tor"},
     {'n', "a name", "a number from 0 to 65535 without leading zeros"},
     {'v', "a value", "a number from 0 to 65535 without leading zeros"},
     {'l', "the line feed", "the policy is complete"},
@@ -98,8 +98,8 @@ static const struct {
 static const struct {
     const char *word, *followers;
 } words[] = {
-    {"tatom", "vn"}, {"tnot", "t"}, {"topt", "t"}, {"tand", "tt"}, {"pzero", ""},
-    {"pone", ""},    {"ptar", "pt"}, {"pnot", "p"}, {"pdbd", "p"}, {"pand", "pp"},
+    {"tatom", "vn"}, {"tnot", "t"},  {"topt", "t"}, {"tand", "tt"}, {"tor", "tt"},  {"pzero", ""},
+    {"pone", ""},    {"ptar", "pt"}, {"pnot", "p"}, {"pdbd", "p"},  {"pand", "pp"}, {"por", "pp"},
 };
 
 /* The length of the run of bytes up to a space, line feed or end. */

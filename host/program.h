@@ -76,9 +76,9 @@ static inline const char *reason(uint64_t word, const struct block *file)
 {
     size_t place = sinkheron_place(word);
     unsigned number = sinkheron_number(word), tag = number == 15 && place < file->length ? file->bytes[place] : 0;
-    if (tag >= 0x10 && tag <= 0x13)
+    if (tag >= 0x10 && tag <= 0x14)
         return "a target stands where a policy is due";
-    if (tag >= 0x20 && tag <= 0x25)
+    if (tag >= 0x20 && tag <= 0x26)
         return "a policy stands where a target is due";
     return refusal(number);
 }

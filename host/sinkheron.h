@@ -67,15 +67,15 @@ uint64_t sinkheron_normal_form(const uint8_t *policy, size_t policy_len, const u
 
 /* The policy file of the policy that the text is the line of, at the front of the space; bytes past it are unaltered. A line has the
  * policy's words in prefix order, single spaces between them and a line feed at the end: tatom with name and value in decimal without
- * leading zeros, tnot, topt, tand, pzero (deny), pone (allow), ptar (targeted), pnot, pdbd (deny by default), pand. Bits 32 to 47 have
- * the file's length. Numbers 6 and 7 at a word, 51 to 54, 13 (shorter than the file; 766 bytes always suffice). */
+ * leading zeros, tnot, topt, tand, tor, pzero (deny), pone (allow), ptar (targeted), pnot, pdbd (deny by default), pand, por. Bits 32 to
+ * 47 have the file's length. Numbers 6 and 7 at a word, 51 to 54, 13 (shorter than the file; 766 bytes always suffice). */
 uint64_t sinkheron_read_text(const uint8_t *text, size_t text_len, uint8_t *space, size_t space_len);
 
 /* The line of the file's policy at the front of the space, without a zero byte behind it; bytes past it are unaltered. Bits 32 to 47
  * have the line's length. Numbers 1 to 8, 15, 13 (shorter than the line; 2927 bytes always suffice). */
 uint64_t sinkheron_write_text(const uint8_t *policy, size_t policy_len, uint8_t *space, size_t space_len);
 
-/* The smallest number, 1 to 6, of a structural rule that shows the policy resistant, or 0: bits 12 to 15. Numbers 1 to 8, 15. */
+/* The smallest number, 1 to 7, of a structural rule that shows the policy resistant, or 0: bits 12 to 15. Numbers 1 to 8, 15. */
 uint64_t sinkheron_certify(const uint8_t *policy, size_t policy_len);
 
 /* The fields of a word. */
