@@ -41,6 +41,14 @@ static void resistant_leaf(struct file *f)
     append(f, leaf, sizeof leaf);
 }
 
+/* The same of two names with an or between them. */
+static void or_leaf(struct file *f)
+{
+    const uint8_t left = (uint8_t)(leaf_number++ % names), right = (uint8_t)(leaf_number % names);
+    const uint8_t leaf[] = {0x23, 0x23, 0x24, 0x22, 0x14, 0x10, 0, left, 0, 1, 0x10, 0, right, 0, 1, 0x21};
+    append(f, leaf, sizeof leaf);
+}
+
 /* Exposed among the first subsets: allow unless the name is known to be 1. */
 static void early_leaf(struct file *f)
 {
@@ -64,16 +72,16 @@ static void atom_leaf(struct file *f)
     append(f, leaf, sizeof leaf);
 }
 
-/* A balanced tree of ands over so many leaves. */
-static void tree(struct file *f, unsigned leaves, uint8_t and, void (*leaf)(struct file *))
+/* A balanced tree of ands or ors over so many leaves. */
+static void tree(struct file *f, unsigned leaves, uint8_t join, void (*leaf)(struct file *))
 {
     if (leaves == 1) {
         leaf(f);
         return;
     }
-    f->bytes[f->length++] = and;
-    tree(f, leaves / 2, and, leaf);
-    tree(f, leaves - leaves / 2, and, leaf);
+    f->bytes[f->length++] = join;
+    tree(f, leaves / 2, join, leaf);
+    tree(f, leaves - leaves / 2, join, leaf);
 }
 
 /* All the policy's pairs, and then, above them, so many more that a request has. */
@@ -89,12 +97,13 @@ static void ask_all(unsigned more)
     frame(&request);
 }
 
+/* Leaves with an or are joined by ors, all others by ands. */
 static void build(unsigned leaves, unsigned of_names, void (*leaf)(struct file *))
 {
     policy.length = 3;
     leaf_number = 0;
     names = of_names;
-    tree(&policy, leaves, 0x25, leaf);
+    tree(&policy, leaves, leaf == or_leaf ? 0x26 : 0x25, leaf);
     frame(&policy);
     ask_all(0);
 }
@@ -293,6 +302,8 @@ static void search_rows(void)
         for (unsigned n = 1; n <= 8; n *= 2)
             if (n <= sizes[k])
                 search_row(sizes[k], n, resistant_leaf, "resistant");
+    search_row(9, 8, or_leaf, "with ors");
+    search_row(28, 8, or_leaf, "with ors");
     for (unsigned k = 0; k < sizeof sizes / sizeof *sizes; k++)
         search_row(sizes[k], sizes[k] < 8 ? sizes[k] : 8, early_leaf, "exposed early");
     search_row(45, 1, late_leaf, "exposed late");
@@ -313,6 +324,10 @@ static void decide_rows(void)
                 build(sizes[k], n, resistant_leaf);
                 decide_row("resistant");
             }
+    build(9, 8, or_leaf);
+    decide_row("with ors");
+    build(28, 8, or_leaf);
+    decide_row("with ors");
     build(36, 8, early_leaf);
     decide_row("exposed");
     ask_all(256 - pair_count);

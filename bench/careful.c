@@ -70,7 +70,7 @@ static int stop(struct pass *p, unsigned number, size_t place)
 
 static int is_tag(uint8_t byte)
 {
-    return (byte >= 0x10 && byte <= 0x13) || (byte >= 0x20 && byte <= 0x25);
+    return (byte >= 0x10 && byte <= 0x14) || (byte >= 0x20 && byte <= 0x26);
 }
 
 /* The tag of the node that is due, from `low` to `high`; -1 for a refusal. A tag that is not due is one of the other sort. */
@@ -111,11 +111,15 @@ static int look_up(const struct pass *p, uint32_t pair)
     return low > 0 && pair_at(p->pairs + 4 * low - 4) >> 16 == pair >> 16 ? 0 : 2;
 }
 
+static int and_values(int a, int b) { return a == 0 || b == 0 ? 0 : a == 2 || b == 2 ? 2 : 1; }
+
+static int or_values(int a, int b) { return a == 1 || b == 1 ? 1 : a == 2 || b == 2 ? 2 : 0; }
+
 static int target(struct pass *p, unsigned left)
 {
-    int a, b;
+    int a, b, t = tag(p, left, 0x10, 0x14);
     uint32_t pair;
-    switch (tag(p, left, 0x10, 0x13)) {
+    switch (t) {
     case -1: return -1;
     case 0x10:
         if (p->length - p->at < 4)
@@ -128,21 +132,31 @@ static int target(struct pass *p, unsigned left)
     default:
         if ((a = target(p, left - 1)) < 0 || (b = target(p, left - 1)) < 0)
             return -1;
-        return a == 0 || b == 0 ? 0 : a == 2 || b == 2 ? 2 : 1;
+        return t == 0x13 ? and_values(a, b) : or_values(a, b);
     }
+}
+
+static int and_sets(int s, int r)
+{
+    return (s & r & ALLOW) | ((s | r) & DENY) | ((s & UNDEFINED && r & (UNDEFINED | ALLOW)) || (r & UNDEFINED && s & ALLOW) ? UNDEFINED : 0);
+}
+
+static int or_sets(int s, int r)
+{
+    return ((s | r) & ALLOW) | (s & r & DENY) | ((s & UNDEFINED && r & (UNDEFINED | DENY)) || (r & UNDEFINED && s & DENY) ? UNDEFINED : 0);
 }
 
 static int policy(struct pass *p, unsigned left)
 {
-    int t, s, r;
-    switch (tag(p, left, 0x20, 0x25)) {
+    int t = tag(p, left, 0x20, 0x26), s, r, value;
+    switch (t) {
     case -1: return -1;
     case 0x20: return DENY;
     case 0x21: return ALLOW;
     case 0x22:
-        if ((t = target(p, left - 1)) < 0 || (s = policy(p, left - 1)) < 0)
+        if ((value = target(p, left - 1)) < 0 || (s = policy(p, left - 1)) < 0)
             return -1;
-        return t == 1 ? s : t == 0 ? UNDEFINED : s | UNDEFINED;
+        return value == 1 ? s : value == 0 ? UNDEFINED : s | UNDEFINED;
     case 0x23:
         if ((s = policy(p, left - 1)) < 0)
             return -1;
@@ -154,7 +168,7 @@ static int policy(struct pass *p, unsigned left)
     default:
         if ((s = policy(p, left - 1)) < 0 || (r = policy(p, left - 1)) < 0)
             return -1;
-        return (s & r & ALLOW) | ((s | r) & DENY) | ((s & UNDEFINED && r & (UNDEFINED | ALLOW)) || (r & UNDEFINED && s & ALLOW) ? UNDEFINED : 0);
+        return t == 0x25 ? and_sets(s, r) : or_sets(s, r);
     }
 }
 

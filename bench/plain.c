@@ -18,7 +18,8 @@ static int target(const uint8_t **at, const struct request *q)
 {
     int a, b, named = 0;
     uint32_t pair;
-    switch (*(*at)++) {
+    uint8_t tag = *(*at)++;
+    switch (tag) {
     case 0x10:
         pair = pair_at(*at);
         *at += 4;
@@ -33,15 +34,28 @@ static int target(const uint8_t **at, const struct request *q)
     default:
         a = target(at, q);
         b = target(at, q);
+        if (tag == 0x14)
+            return a == 1 || b == 1 ? 1 : a == 2 || b == 2 ? 2 : 0;
         return a == 0 || b == 0 ? 0 : a == 2 || b == 2 ? 2 : 1;
     }
+}
+
+static unsigned and_sets(unsigned s, unsigned r)
+{
+    return (s & r & ALLOW) | ((s | r) & DENY) | ((s & UNDEFINED && r & (UNDEFINED | ALLOW)) || (r & UNDEFINED && s & ALLOW) ? UNDEFINED : 0);
+}
+
+static unsigned or_sets(unsigned s, unsigned r)
+{
+    return ((s | r) & ALLOW) | (s & r & DENY) | ((s & UNDEFINED && r & (UNDEFINED | DENY)) || (r & UNDEFINED && s & DENY) ? UNDEFINED : 0);
 }
 
 static unsigned policy(const uint8_t **at, const struct request *q)
 {
     unsigned s, r;
     int t;
-    switch (*(*at)++) {
+    uint8_t tag = *(*at)++;
+    switch (tag) {
     case 0x20: return DENY;
     case 0x21: return ALLOW;
     case 0x22:
@@ -53,7 +67,7 @@ static unsigned policy(const uint8_t **at, const struct request *q)
     default:
         s = policy(at, q);
         r = policy(at, q);
-        return (s & r & ALLOW) | ((s | r) & DENY) | ((s & UNDEFINED && r & (UNDEFINED | ALLOW)) || (r & UNDEFINED && s & ALLOW) ? UNDEFINED : 0);
+        return tag == 0x25 ? and_sets(s, r) : or_sets(s, r);
     }
 }
 
@@ -106,7 +120,8 @@ static struct two target_word(const uint8_t **at, const struct lanes *l)
     struct two a, b, r;
     uint64_t held = 0, named = 0;
     uint32_t pair;
-    switch (*(*at)++) {
+    uint8_t tag = *(*at)++;
+    switch (tag) {
     case 0x10:
         pair = pair_at(*at);
         *at += 4;
@@ -124,17 +139,36 @@ static struct two target_word(const uint8_t **at, const struct lanes *l)
     default:
         a = target_word(at, l);
         b = target_word(at, l);
-        r.is1 = a.is1 & b.is1;
-        r.is0 = a.is0 | b.is0;
+        r.is1 = tag == 0x13 ? a.is1 & b.is1 : a.is1 | b.is1;
+        r.is0 = tag == 0x13 ? a.is0 | b.is0 : a.is0 & b.is0;
         return r;
     }
+}
+
+static struct three and_words(struct three s, struct three r)
+{
+    struct three o;
+    o.allow = s.allow & r.allow;
+    o.deny = s.deny | r.deny;
+    o.undefined = (s.undefined & (r.undefined | r.allow)) | (r.undefined & (s.undefined | s.allow));
+    return o;
+}
+
+static struct three or_words(struct three s, struct three r)
+{
+    struct three o;
+    o.allow = s.allow | r.allow;
+    o.deny = s.deny & r.deny;
+    o.undefined = (s.undefined & (r.undefined | r.deny)) | (r.undefined & (s.undefined | s.deny));
+    return o;
 }
 
 static struct three policy_word(const uint8_t **at, const struct lanes *l)
 {
     struct three s, r, o = {0, 0, 0};
     struct two t;
-    switch (*(*at)++) {
+    uint8_t tag = *(*at)++;
+    switch (tag) {
     case 0x20: o.deny = ~UINT64_C(0); return o;
     case 0x21: o.allow = ~UINT64_C(0); return o;
     case 0x22:
@@ -149,10 +183,7 @@ static struct three policy_word(const uint8_t **at, const struct lanes *l)
     default:
         s = policy_word(at, l);
         r = policy_word(at, l);
-        o.allow = s.allow & r.allow;
-        o.deny = s.deny | r.deny;
-        o.undefined = (s.undefined & (r.undefined | r.allow)) | (r.undefined & (s.undefined | s.allow));
-        return o;
+        return tag == 0x25 ? and_words(s, r) : or_words(s, r);
     }
 }
 
