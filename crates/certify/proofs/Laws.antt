@@ -1,5 +1,5 @@
 -- What the answers of the parts make of the whole: one law for each node, and for each way to a certificate.
-use Prim.Native.Nat.{ℕ, zero, suc, _+_, _-_, _≤_, _<_}
+use Prim.Native.Nat.{ℕ, _+_, _-_, _≤_, _<_}
 use mathlib.Core.Path.{_≡_, refl, sym, ap, ap₂, subst, _∙_}
 use mathlib.Core.Bool.{Bool, true, false, _&&_, _||_, cond}
 use mathlib.Core.List.{List}
@@ -118,11 +118,6 @@ module _ {b : List ℕ} where
       rule-4 y z = record {
         right = λ p e. simp (tells aTargeted w p e, tells (aNot target) x p e, tells (aDefault policy) y p e, tells (aNot policy) z p e);
       }
-
--- the number of a rule, where the body has a certificate
-pub given-some : (n : ℕ) {rule : ℕ} → (n ≡ 0 → ⊥) → rule ≡ given n rule
-given-some zero h = absurd (h refl)
-given-some (suc n) h = refl
 
 -- where none of the rules 1 to 4 applies, the number by the policies below
 abbrev first : Bool → Bool → Bool → Bool → ℕ → ℕ

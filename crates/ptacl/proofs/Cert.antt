@@ -1,6 +1,6 @@
 -- The tests decide the rules, and the certificate's number is the smallest that applies, or 0.
 use Prim.Native.Nat.{ℕ, zero, suc, _≤_, _+_}
-use mathlib.Core.Path.{_≡_, refl, sym, subst}
+use mathlib.Core.Path.{_≡_, refl, sym, subst, _∙_}
 use mathlib.Core.Logic.{_⊎_, inl, inr, ⊎-elim, _↔_}
 use mathlib.Core.Bool.{Bool, true, false, cond}
 use mathlib.Core.List.{List, [], _∷_}
@@ -117,20 +117,24 @@ rule-upto p i h = subst (Upto (suc i)) (based p .1) (let r = first-least 1 (test
 base-upto : (p : Policy) (k : ℕ) → 5 ≤ k → Upto k (base p k)
 base-upto p k l = first-between 1 (tests p) k l
 
-given-is : (n k : ℕ) → 1 ≤ n → given n k ≡ k
-given-is zero k l = absurd (omega arith)
-given-is (suc n) k l = refl
+pub given-some : (n : ℕ) {rule : ℕ} → (n ≡ 0 → ⊥) → rule ≡ given n rule
+given-some zero h = absurd (h refl)
+given-some (suc n) h = refl
+
+-- a certificate's number, where one applies
+some : {n k : ℕ} → Upto k n → n ≡ 0 → ⊥
+some u e = omega arith
 
 upto : {k : ℕ} {p : Policy} → Certified k p → Upto k (certificate p)
 upto (cert1 {p = p} h) = rule-upto p 0 (never-passes h)
 upto (cert2 {p = p} h) = rule-upto p 1 h
 upto (cert3 {p = p} h) = rule-upto p 2 h
 upto (cert4 {p = p} h) = rule-upto p 3 h
-upto (cert5 {p = p} h) = rw (given-is (certificate p) 5 (upto h .0)) (base-upto (default p) 5 (omega arith))
-upto (cert6 {p = p} {r = r} h k) =
-    rw (given-is (certificate p) (given (certificate r) 6) (upto h .0), given-is (certificate r) 6 (upto k .0)) (base-upto (and p r) 6 (omega arith))
-upto (cert7 {p = p} {r = r} h k) =
-    rw (given-is (certificate p) (given (certificate r) 7) (upto h .0), given-is (certificate r) 7 (upto k .0)) (base-upto (or p r) 7 (omega arith))
+upto (cert5 {p = p} h) = subst (λ n. Upto 5 (base (default p) n)) (given-some (certificate p) (some (upto h))) (base-upto (default p) 5 (omega arith))
+upto (cert6 {p = p} {r = r} h k) = subst (λ n. Upto 6 (base (and p r) n))
+    (given-some (certificate r) (some (upto k)) ∙ given-some (certificate p) (some (upto h))) (base-upto (and p r) 6 (omega arith))
+upto (cert7 {p = p} {r = r} h k) = subst (λ n. Upto 7 (base (or p r) n))
+    (given-some (certificate r) (some (upto k)) ∙ given-some (certificate p) (some (upto h))) (base-upto (or p r) 7 (omega arith))
 
 pub certificate-is : (p : Policy) → Certificate p (certificate p)
 certificate-is p =

@@ -1,9 +1,10 @@
 -- Two tests that agree at every value of a finite type, which is computed, agree. A test that passes at every node, which is computed,
 -- passes at each; so no byte is that of nodes of both sorts.
-use mathlib.Core.Path.{_≡_, refl, sym}
+use Prim.Native.Nat.{ℕ}
+use mathlib.Core.Path.{_≡_, refl, sym, _∙_}
 use mathlib.Core.Bool.{Bool, true, false, not as no, _&&_, _||_, Bool·beq, true≢false}
 use lib.Dec.{eqb}
-use borrow.Author.Tests.{eq-eqb}
+use borrow.Author.Tests.{eq-eqb, not-true}
 use Rattle.ptacl.specs.Value.{Value, v1, v0, vU}
 use Rattle.ptacl.specs.Values.{Values}
 use Rattle.ptacl.specs.Term.{Sort, target, policy, Node, anAtom, aDeny, anAllow, aTargeted, aNot, aDefault, anAnd, anOr, tagOf}
@@ -95,6 +96,22 @@ module _ (f : (s : Sort) → Node s → Bool) where
   at-node h (aDefault s) = at-both aDefault (inner-pass (and-right outer h) .1) s
   at-node h (anAnd s) = at-both anAnd (inner-pass (and-right outer h) .2) s
   at-node h (anOr s) = at-both anOr (inner-pass (and-right outer h) .3) s
+
+-- the nodes of one kind, of either sort, and those of another have no byte in common, which is computed
+abbrev apartBy : ((s : Sort) → Node s) → ((s : Sort) → Node s) → Bool
+apartBy k l = onBoth (λ r m. onBoth (λ s n. no (eqb (tagOf m) (tagOf n))) l) k
+
+pub tags-differ : (k l : (s : Sort) → Node s) → apartBy k l ≡ true → (r s : Sort) → no (eqb (tagOf (k r)) (tagOf (l s))) ≡ true
+tags-differ k l h r s =
+    at-both (λ s n. no (eqb (tagOf (k r)) (tagOf n))) l (at-both (λ r m. onBoth (λ s n. no (eqb (tagOf m) (tagOf n))) l) k h r) s
+
+pub tags-apart : (k l : (s : Sort) → Node s) → apartBy k l ≡ true → (r s : Sort) → tagOf (k r) ≡ tagOf (l s) → ⊥
+tags-apart k l h r s e = true≢false (sym (eq-eqb (tagOf (k r)) (tagOf (l s)) e) ∙ not-true (eqb (tagOf (k r)) (tagOf (l s))) (tags-differ k l h r s))
+
+-- no byte of a kind, if it is that of neither sort
+pub no-sort : (k : (s : Sort) → Node s) {b : ℕ} → (b ≡ tagOf (k target) → ⊥) → (b ≡ tagOf (k policy) → ⊥) → (s : Sort) → b ≡ tagOf (k s) → ⊥
+no-sort k f g target = f
+no-sort k f g policy = g
 
 -- of two nodes with the same byte the sort is the same
 abbrev sameSort : Sort → Sort → Bool

@@ -2,28 +2,21 @@
 use Prim.Native.Nat.{ℕ}
 use mathlib.Core.Path.{_≡_, refl, sym, ap, ap₂, _∙_}
 use mathlib.Core.Logic.{_↔_}
-use mathlib.Core.Bool.{true, not as no}
+use mathlib.Core.Bool.{true}
 use mathlib.Core.List.{List, _++_}
-use lib.Dec.{eqb}
 use Rattle.ptacl.specs.Value.{notV, defaultV, andV, orV}
 use Rattle.ptacl.specs.Values.{under}
 use Rattle.ptacl.specs.Request.{Pair, Request}
 use Rattle.ptacl.specs.Term.{Sort, target, policy, Term, Policy, atom, deny, allow, targeted, not, default, and, or, atoms}
-use Rattle.ptacl.specs.Term.{aNot, aDefault, anAnd, anOr, tagOf, without}
+use Rattle.ptacl.specs.Term.{aNot, aDefault, anAnd, anOr, without}
 use Rattle.ptacl.specs.Meaning.{lift, lift2, eval}
 use Rattle.ptacl.specs.Exposure.{Reading, Comparison, ResistantBy, Removal, ExposureBy, First}
 use Rattle.ptacl.specs.Spelled.{spelled}
 use Rattle.ptacl.proofs.Bools.{and-both}
+use Rattle.ptacl.proofs.Finite.{tags-differ}
 use Rattle.ptacl.proofs.Rules.{or-means}
 
 -- no or is left
-apart : (r s : Sort) → (no (eqb (tagOf (anOr r)) (tagOf (aNot s))) ≡ true) × (no (eqb (tagOf (anOr r)) (tagOf (aDefault s))) ≡ true)
-    × (no (eqb (tagOf (anOr r)) (tagOf (anAnd s))) ≡ true)
-apart target target = (refl, refl, refl)
-apart target policy = (refl, refl, refl)
-apart policy target = (refl, refl, refl)
-apart policy policy = (refl, refl, refl)
-
 pub spelled-without : (r : Sort) {s : Sort} (t : Term s) → without (anOr r) (spelled t) ≡ true
 spelled-without target (atom n v) = refl
 spelled-without policy (atom n v) = refl
@@ -33,12 +26,12 @@ spelled-without target allow = refl
 spelled-without policy allow = refl
 spelled-without target (targeted t p) = and-both (spelled-without target t) (spelled-without target p)
 spelled-without policy (targeted t p) = and-both (spelled-without policy t) (spelled-without policy p)
-spelled-without r (not {s = s} t) = and-both (apart r s .0) (spelled-without r t)
-spelled-without r (default {s = s} t) = and-both (apart r s .1) (spelled-without r t)
-spelled-without r (and {s = s} t u) = and-both (apart r s .2) (and-both (spelled-without r t) (spelled-without r u))
+spelled-without r (not {s = s} t) = and-both (tags-differ anOr aNot refl r s) (spelled-without r t)
+spelled-without r (default {s = s} t) = and-both (tags-differ anOr aDefault refl r s) (spelled-without r t)
+spelled-without r (and {s = s} t u) = and-both (tags-differ anOr anAnd refl r s) (and-both (spelled-without r t) (spelled-without r u))
 spelled-without r (or {s = s} t u) =
-    let n = apart r s .0 in
-    and-both n (and-both (apart r s .2) (and-both (and-both n (spelled-without r t)) (and-both n (spelled-without r u))))
+    let n = tags-differ anOr aNot refl r s in
+    and-both n (and-both (tags-differ anOr anAnd refl r s) (and-both (and-both n (spelled-without r t)) (and-both n (spelled-without r u))))
 
 pub spelled-means : {s : Sort} (t : Term s) (q : Request) → eval (spelled t) q ≡ eval t q
 spelled-means (atom n v) q = refl

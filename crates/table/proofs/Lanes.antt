@@ -1,6 +1,6 @@
 -- The rows of a target and of a policy at each lane, by rules over all values and sets that are tested at each of them.
 use Prim.Native.Nat.{ℕ, _%_}
-use mathlib.Core.Path.{_≡_, refl, sym, ap, ap₂, _∙_}
+use mathlib.Core.Path.{_≡_, refl, sym, ap, _∙_}
 use mathlib.Core.Bool.{Bool, true, false, cond, not, _&&_, _||_, Bool·beq}
 use lib.Dec.{eqb}
 use borrow.Author.Tests.{eqb-true}
@@ -177,28 +177,15 @@ module _ (left right r : PolicyRow) {au bv ub va : Row} (some : SomeAt left) (mo
         (each2 andV) refl (setAt left j) (setAt right j) e);
   }
 
--- an or is not(and(not, not)): with allow and deny in each other's place its rows are those of an and
-abbrev swapped : PolicyRow → PolicyRow
-swapped p = record { allow = p .deny; deny = p .allow; undefined = p .undefined; next = p .next }
-
-some-swapped : (p : PolicyRow) → SomeAt p → SomeAt (swapped p)
+-- an or is not(and(not, not))
+pub some-not : (p : PolicyRow) {a : PolicyRow} → SomeAt p → SetsAre a (λ j. each notV (setAt p j)) → SomeAt a
 unfolding lift
-some-swapped p m = record { some = λ j h. ap isEmpty (not-law p .at j h) ∙ (empty-not (setAt p j) ∙ m .some j h) }
+some-not p m s = record { some = λ j h. ap isEmpty (s .at j h) ∙ (empty-not (setAt p j) ∙ m .some j h) }
 
-module _ (left right r : PolicyRow) {du ev ue vd : Row} (some : SomeAt left) (more : SomeAt right)
-    (edu : RowIs du (λ j. lane (left .deny) j || lane (left .undefined) j))
-    (eev : RowIs ev (λ j. lane (right .deny) j || lane (right .undefined) j))
-    (eue : RowIs ue (λ j. lane (left .undefined) j && lane ev j)) (evd : RowIs vd (λ j. lane (right .undefined) j && lane du j))
-    (a : RowIs (r .allow) (λ j. lane (left .allow) j || lane (right .allow) j))
-    (d : RowIs (r .deny) (λ j. lane (left .deny) j && lane (right .deny) j))
-    (u : RowIs (r .undefined) (λ j. lane ue j || lane vd j)) where
-  pub either-law : SetsAre r (λ j. each2 orV (setAt left j) (setAt right j))
-  unfolding lift lift2
-  either-law =
-      let b = both-law (swapped left) (swapped right) (swapped r) (some-swapped left some) (some-swapped right more) edu eev eue evd d a u in
-      record {
-        at = λ j h.
-            not-law (swapped r) .at j h
-            ∙ ap (each notV) (b .at j h ∙ ap₂ (each2 andV) (not-law left .at j h) (not-law right .at j h))
-            ∙ sym (or-is policy (setAt left j) (setAt right j));
-      }
+pub either-law : (left right r : PolicyRow) {a b c : PolicyRow} → SetsAre a (λ j. each notV (setAt left j)) → SetsAre b (λ j. each notV (setAt right j))
+    → SetsAre c (λ j. each2 andV (setAt a j) (setAt b j)) → SetsAre r (λ j. each notV (setAt c j))
+    → SetsAre r (λ j. each2 orV (setAt left j) (setAt right j))
+unfolding lift lift2
+either-law left right r a b c d = record {
+  at = λ j h. rw (d .at j h, c .at j h, a .at j h, b .at j h) (sym (or-is policy (setAt left j) (setAt right j)));
+}

@@ -213,27 +213,12 @@ fn both(left: PolicyRow, right: PolicyRow) -> PolicyRow
     }
 }
 
-// The same with allow and deny in each other's place.
+// An or is not(and(not, not)).
 fn either(left: PolicyRow, right: PolicyRow) -> PolicyRow
     requires { ⌜ SomeAt left × SomeAt right ⌝ }
     ensures { λ r. ⌜ SetsAre r (λ j. each2 orV (setAt left j) (setAt right j)) × (r .next ≡ right .next) ⌝ }
 {
-    let a = left.allow;
-    let d = left.deny;
-    let u = left.undefined;
-    let b = right.allow;
-    let e = right.deny;
-    let v = right.undefined;
-    let du = d.or(u);
-    let ev = e.or(v);
-    let u_ev = u.and(ev);
-    let v_du = v.and(du);
-    PolicyRow {
-        allow: a.or(b),
-        deny: d.and(e),
-        undefined: u_ev.or(v_du),
-        next: right.next,
-    }
+    opposite(both(opposite(left), opposite(right)))
 }
 
 // The policy at `at`, of at most `left` nodes.

@@ -1,6 +1,6 @@
 -- A number that is not 0 gives the rule.
 use borrow.Author.Needs.{needs}
-use Rattle.certify.proofs.Laws.{given-some}
+use Rattle.ptacl.proofs.Cert.{given-some}
 use Rattle.certify.proofs.given.Statement.{statement}
 use Rattle.certify.proofs.given.Tie as tie
 

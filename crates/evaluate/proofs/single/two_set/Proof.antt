@@ -1,11 +1,12 @@
 -- `two_set` meets its contract: no tag is that of two nodes.
 use Prim.Native.Nat.{ℕ}
-use mathlib.Core.Path.{_≡_, sym, _∙_}
+use mathlib.Core.Path.{_≡_, refl, sym, _∙_}
 use native.Mathlib.Omega.{arith}
 use Rattle.ptacl.specs.Value.{andV, orV}
 use Rattle.ptacl.specs.Values.{each2, code, setOf}
 use Rattle.ptacl.specs.Term.{Sort, target, policy, aTargeted, anAnd, anOr, tagOf}
 use Rattle.ptacl.proofs.Codes.{code-small}
+use Rattle.ptacl.proofs.Finite.{tags-apart, no-sort}
 use Rattle.evaluate.specs.Walked.{TwoSet}
 use Rattle.evaluate.proofs.single.two_set.Statement.{statement}
 use Rattle.evaluate.proofs.single.two_set.Tie as tie
@@ -14,24 +15,14 @@ targeted-apart : (s : Sort) → (tagOf aTargeted ≡ tagOf (anAnd s) → ⊥) ×
 targeted-apart target = (λ e. omega arith, λ e. omega arith)
 targeted-apart policy = (λ e. omega arith, λ e. omega arith)
 
-joined-apart : (r s : Sort) → tagOf (anAnd r) ≡ tagOf (anOr s) → ⊥
-joined-apart target target e = omega arith
-joined-apart target policy e = omega arith
-joined-apart policy target e = omega arith
-joined-apart policy policy e = omega arith
-
 of-and : (r : Sort) {tag first second own : ℕ} → tag ≡ tagOf (anAnd r) → own ≡ code (each2 andV (setOf first) (setOf second))
     → TwoSet tag first second own
 of-and r {first} {second} e h = record {
   targeted = λ g. absurd (targeted-apart r .0 (sym g ∙ e));
   and = λ s g. h;
-  or = λ s g. absurd (joined-apart r s (sym e ∙ g));
+  or = λ s g. absurd (tags-apart anAnd anOr refl r s (sym e ∙ g));
   small = code-small (each2 andV (setOf first) (setOf second)) h;
 }
-
-no-and : {tag : ℕ} → (tag ≡ tagOf (anAnd target) → ⊥) → (tag ≡ tagOf (anAnd policy) → ⊥) → (s : Sort) → tag ≡ tagOf (anAnd s) → ⊥
-no-and f g target = f
-no-and f g policy = g
 
 returns : tie.Need-returns
 returns c = record {
@@ -47,7 +38,7 @@ returns-4 c =
     let a = c .before .before .args in
     record {
       targeted = λ e. absurd (n .0 .0 .1 e);
-      and = λ s e. absurd (no-and (n .0 .1) (n .1) s e);
+      and = λ s e. absurd (no-sort anAnd (n .0 .1) (n .1) s e);
       or = λ s e. c .or .ensures;
       small = code-small (each2 orV (setOf (a .first .code)) (setOf (a .second .code))) (c .or .ensures);
     }
