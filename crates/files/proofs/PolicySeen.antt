@@ -12,7 +12,7 @@ use Rattle.files.specs.Encoding.{bytes}
 use Rattle.files.specs.Refusal.{refused, accepted, dec16, unframed}
 use Rattle.files.specs.Prefix.{Head, node, stop, Scan, done, fault, andThen, Subterms, below, body, scan}
 use Rattle.files.specs.ReadPolicy.{otherSort, Byte, tag, other, unknown, byteAt, limitOf, tagged, headAt, pairAt, inBytes, finish, readPolicy}
-use Rattle.files.specs.Cases.{sortOf, sortName, shapeName, byteOf, headOf, seen, wordOf, Small, Scans, Tells, Finishes, policyRead, frameOf}
+use Rattle.files.specs.Cases.{sortOf, sortName, shapeName, byteOf, headOf, seen, seenThen, wordOf, Small, Scans, Tells, Finishes, policyRead, frameOf}
 use Rattle.files.specs.declared.frame.Frame.{Frame}
 use Rattle.files.specs.declared.policy.Sort.{Sort as SortC}
 use Rattle.files.specs.declared.policy.Shape.{Shape as ShapeC}
@@ -52,10 +52,6 @@ byte-unknown (other n) e = never (cc)
 byte-unknown unknown e = refl
 
 -- a body, by what is seen of its head and of the terms below it
-abbrev pub seenThen : Scanned → (ℕ → ℕ → Scanned) → Scanned
-seenThen (Scanned.Done next nodes) f = f next nodes
-seenThen (Scanned.Fault number place) f = Scanned.Fault number place
-
 abbrev seenBelow : List ℕ → (Sort → ℕ → ℕ → Scanned) → Sort → ℕ → ℕ → ShapeC → Scanned
 seenBelow b sub s at nodes ShapeC.Numbers = seen (pairAt b at nodes)
 seenBelow b sub s at nodes ShapeC.Leaf = Scanned.Done at nodes
@@ -180,13 +176,14 @@ unfolding pairAt
 small-pair b at nodes l n = either (ltb (at + 3) (length b))
     (λ e. rw e (omega (arith, ltb-true (at + 3) (length b) e), n)) (λ e. rw e (omega arith, omega arith))
 
-pub pair-done : (b : List ℕ) (at nodes : ℕ) {next k : ℕ} → seen (pairAt b at nodes) ≡ Scanned.Done next k → (next ≡ at + 4) × (at + 3 < length b)
+pub pair-done : (b : List ℕ) (at nodes : ℕ) {next k : ℕ} → seen (pairAt b at nodes) ≡ Scanned.Done next k
+    → (next ≡ at + 4) × (at + 3 < length b) × (k ≡ nodes)
 unfolding pairAt
 pair-done b at nodes {next} {k} = go (ltb (at + 3) (length b)) refl
   where
     go : (c : Bool) → ltb (at + 3) (length b) ≡ c → seen {A = Pair} (cond c (done (dec16 b at, dec16 b (at + 2)) (at + 4) nodes) (fault 4 (length b))) ≡ Scanned.Done next k
-        → (next ≡ at + 4) × (at + 3 < length b)
-    go true e f = (cc, ltb-true _ _ e)
+        → (next ≡ at + 4) × (at + 3 < length b) × (k ≡ nodes)
+    go true e f = (cc, ltb-true _ _ e, cc)
     go false e f = never (cc)
 
 -- a number made of what is seen
@@ -198,7 +195,7 @@ abbrev pub seenFinish : ℕ → Scanned → PolicyRead
 seenFinish len (Scanned.Done next nodes) = cond (ltb next len) (PolicyRead.Refused 8 next) PolicyRead.Accepted
 seenFinish len (Scanned.Fault number place) = PolicyRead.Refused number place
 
-finished : (len : ℕ) (x : Scan Policy) → seenFinish len (seen x) ≡ policyRead (finish 8 len x)
+pub finished : (len : ℕ) (x : Scan Policy) → seenFinish len (seen x) ≡ policyRead (finish 8 len x)
 finished len (done p next nodes) = go (ltb next len)
   where
     go : (c : Bool) → cond c (PolicyRead.Refused 8 next) PolicyRead.Accepted ≡ policyRead (cond c (refused 8 next) (accepted p))

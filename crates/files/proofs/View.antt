@@ -1,12 +1,16 @@
 -- For the passes over a file that was read: what a first byte tells of its term, of where that ends, and of the terms below it. Each is
 -- one law for every node, by the node's shape.
-use Prim.Native.Nat.{ℕ, _+_, _-_, _<_, _≤_}
+use Prim.Native.Nat.{ℕ, _+_, _-_, _/_, _%_, _<_, _≤_}
 use mathlib.Core.Path.{_≡_, refl, sym, ap, subst, _∙_}
 use mathlib.Core.Bool.{true≢false}
 use mathlib.Core.List.{List, [], _∷_, append-nil}
 use native.Mathlib.Omega.{arith}
 use lib.ListN.{length, getD, take, drop, length-append, length-drop}
 use lib.Seq.{take-all}
+use Rattle.ptacl.specs.Value.{Value}
+use Rattle.ptacl.specs.Request.{Request}
+use Rattle.ptacl.specs.Pairs.{packed, unpacked}
+use Rattle.ptacl.specs.Meaning.{atomAt}
 use Rattle.ptacl.specs.Term.{Sort, target, policy, Term, Policy, nodes}
 use Rattle.ptacl.specs.Term.{Node, anAtom, aDeny, anAllow, aTargeted, aNot, aDefault, anAnd, anOr, tagOf, Shape, numbers, leaf, one, two, shape}
 use Rattle.ptacl.proofs.Shapes.{Case, by-shape}
@@ -16,6 +20,8 @@ use Rattle.files.specs.ReadPolicy.{readPolicy}
 use Rattle.files.specs.Places.{At, Has, PolicyFile, BodyOf, Encoded}
 use Rattle.files.specs.Cases.{policyRead}
 use Rattle.files.specs.declared.policy.PolicyRead.{PolicyRead}
+use Rattle.files.proofs.BigEndian.{dec16-range}
+use Rattle.files.proofs.Numbers.{unpacked-packed}
 use Rattle.files.proofs.Places.{room, head, tail, left, right, pair-room, pair-name, pair-value}
 use Rattle.files.proofs.Prefix.{Adds, adds}
 use Rattle.files.proofs.SingleByte.{same-node}
@@ -183,6 +189,14 @@ module _ {b : List ℕ} {i : ℕ} {s : Sort} {count : ℕ} (p : Has s b i count)
   has-first (a-not e) = parts (aNot s) e p
   has-first (a-default e) = parts (aDefault s) e p
   has-first (joins j) = has-both j .0
+
+-- an atom's pair, as a number, tells the two that stand there
+pub of-pair : (b : List ℕ) (i : ℕ) (q : Request) {x : ℕ} {v : Value} → Bytes b → x ≡ packed (dec16 b i, dec16 b (i + 2))
+    → v ≡ atomAt q (x / 65536) (x % 65536) → v ≡ atomAt q (dec16 b i) (dec16 b (i + 2))
+of-pair b i q {x} bs e f = f ∙ ap (λ y. atomAt q (y .0) (y .1)) its
+  where
+    its : unpacked x ≡ (dec16 b i, dec16 b (i + 2))
+    its = ap unpacked e ∙ unpacked-packed _ (dec16-range bs (i + 2))
 
 -- what the code's answer for a file tells
 pub policy-accepted : (x : Read Policy) → policyRead x ≡ PolicyRead.Accepted → (p : Policy) × (x ≡ accepted p)

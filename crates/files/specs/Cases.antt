@@ -52,6 +52,11 @@ abbrev pub seen : {A : Type 0} → Scan A → Scanned
 seen (done a next nodes) = Scanned.Done next nodes
 seen (fault number place) = Scanned.Fault number place
 
+-- a scan that goes on behind what was seen
+abbrev pub seenThen : Scanned → (ℕ → ℕ → Scanned) → Scanned
+seenThen (Scanned.Done next nodes) f = f next nodes
+seenThen (Scanned.Fault number place) f = Scanned.Fault number place
+
 -- what is seen as one number: the place behind the term and the nodes up to there; from 2^32 on, a refusal's place and number
 abbrev pub wordOf : Scanned → ℕ
 wordOf (Scanned.Done next nodes) = next * 256 + nodes
