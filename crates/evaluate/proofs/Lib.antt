@@ -1,3 +1,3 @@
 pub mod Ordered
-pub mod Nodes
+pub mod Worth
 pub mod Walked

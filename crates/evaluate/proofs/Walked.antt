@@ -1,88 +1,65 @@
 -- For a walk that reads and evaluates: what a node makes of the sets below it, and a walk of the walks below it.
 use Prim.Native.Nat.{ℕ, _+_, _/_, _%_}
-use mathlib.Core.Path.{_≡_, refl, sym, ap, ap₂, subst, _∙_}
+use mathlib.Core.Path.{_≡_, refl, sym, subst, _∙_}
 use mathlib.Core.List.{List}
+use native.Mathlib.Nat.{add-assoc}
 use native.Mathlib.Omega.{arith}
 use lib.ListN.{getD}
-use Rattle.ptacl.specs.Value.{Value, notV, defaultV, andV, orV}
-use Rattle.ptacl.specs.Values.{single, each, each2, under as below, code, setOf}
 use Rattle.ptacl.specs.Request.{Request}
-use Rattle.ptacl.specs.Term.{Sort, target, policy, Node, anAtom, aDeny, anAllow, aTargeted, aNot, aDefault, anAnd, anOr, tagOf, shape}
-use Rattle.ptacl.specs.Meaning.{atomAt}
-use Rattle.ptacl.proofs.Codes.{code-set, of-single, of-singles}
-use Rattle.files.specs.Refusal.{dec16}
+use Rattle.ptacl.specs.Term.{Sort, Term, Node, anAtom, aDeny, anAllow, aTargeted, aNot, aDefault, anAnd, anOr, tagOf, numbers, leaf, one, two, shape}
 use Rattle.files.specs.Prefix.{scan}
 use Rattle.files.specs.ReadPolicy.{headAt, pairAt, inBytes}
-use Rattle.files.specs.Cases.{sortOf, shapeName, headOf, seen, Scans}
+use Rattle.files.specs.Cases.{sortOf, sortName, shapeName, headOf, seen, Scans}
 use Rattle.files.specs.declared.policy.Sort.{Sort as SortC}
 use Rattle.files.specs.declared.policy.Shape.{Shape as ShapeC}
 use Rattle.files.specs.declared.policy.Head.{Head as HeadC}
 use Rattle.files.specs.declared.policy.Scanned.{Scanned}
-use Rattle.files.proofs.PolicySeen.{never, Tagged, under, seen-at, seen-two-at, head-tagged, pair-done}
-use Rattle.evaluate.specs.Evaluated.{Told}
-use Rattle.evaluate.specs.Walked.{codeOf, Comes, Walked, Numbered, LeafSet, OneSet, TwoSet}
-use Rattle.evaluate.proofs.Nodes.{act, act2, is-atom, is-deny, is-allow, is-targeted, is-not, is-default, is-and, is-or}
-
--- an operation on the code of an answer
-acts : (f : Value → Value) → ((v : Value) → code (each f (single v)) ≡ code (single (f v))) → (s : Sort) (v : Told s) {c : ℕ} → c ≡ codeOf s v
-    → code (each f (setOf c)) ≡ codeOf s (act f s v)
-acts f h target v e = ap (λ c. code (each f (setOf c))) e ∙ ap (λ z. code (each f z)) (code-set (single v)) ∙ h v
-acts f h policy v e = ap (λ c. code (each f (setOf c))) e
-
-acts2 : (f : Value → Value → Value) → ((v w : Value) → code (each2 f (single v) (single w)) ≡ code (single (f v w)))
-    → (s : Sort) (v w : Told s) {c d : ℕ} → c ≡ codeOf s v → d ≡ codeOf s w → code (each2 f (setOf c) (setOf d)) ≡ codeOf s (act2 f s v w)
-acts2 f h target v w e g =
-    ap₂ (λ c d. code (each2 f (setOf c) (setOf d))) e g ∙ ap₂ (λ y z. code (each2 f y z)) (code-set (single v)) (code-set (single w)) ∙ h v w
-acts2 f h policy v w e g = ap₂ (λ c d. code (each2 f (setOf c) (setOf d))) e g
+use Rattle.files.proofs.PolicySeen.{never, named-sort, Tagged, under, seen-at, seen-two-at, head-tagged, pair-done}
+use Rattle.files.proofs.View.{as-node, as-two, ends}
+use Rattle.evaluate.specs.Worth.{worth, atomCode, Made}
+use Rattle.evaluate.specs.Walked.{Comes, Walked, Numbered, LeafSet, OneSet, TwoSet}
+use Rattle.evaluate.proofs.Worth.{Owns, owns}
 
 -- what a node of a shape, known by its tag, makes of the sets below it
 module _ (b : List ℕ) (i : ℕ) (q : Request) where
   abbrev Makes : Sort → ShapeC → Type 0
-  Makes s ShapeC.Numbers = (c : ℕ) → c ≡ code (single (atomAt q (dec16 b (i + 1)) (dec16 b (i + 1 + 2)))) → Comes s b i q c (i + 5)
+  Makes s ShapeC.Numbers = (c : ℕ) → c ≡ atomCode q b (i + 1) → Comes s b i q c (i + 5)
   Makes s ShapeC.Leaf = (c : ℕ) → LeafSet (getD b i 0) c → Comes s b i q c (i + 1)
   Makes s ShapeC.One = (c d m : ℕ) → Comes s b (i + 1) q c m → OneSet (getD b i 0) c d → Comes s b i q d m
   Makes s (ShapeC.Two r) = (c d w m k : ℕ) → Comes (sortOf r) b (i + 1) q c m → Comes s b m q d k → TwoSet (getD b i 0) c d w → Comes s b i q w k
 
-  abbrev Joined : Sort → Type 0
-  Joined s = (c d w m k : ℕ) → Comes s b (i + 1) q c m → Comes s b m q d k → TwoSet (getD b i 0) c d w → Comes s b i q w k
+  module _ {s : Sort} (n : Node s) (e : getD b i 0 ≡ tagOf n) where
+    comes-numbers : {f : ℕ → ℕ → Term s} → shape n ≡ numbers f → Owns q n (numbers f) → Makes s ShapeC.Numbers
+    comes-numbers x law c h = record { value = as-node n _ e (rw x (λ r. h ∙ rw (← add-assoc i 1 2) (law _ _))); past = ends n e (rw x refl) }
 
-  and-makes : {s : Sort} → getD b i 0 ≡ tagOf (anAnd s) → Joined s
-  and-makes {s} e c d w m k x y l = record {
-    told = _;
-    evaluated = is-and e (x .evaluated) (y .evaluated) refl;
-    its = l .and s e ∙ acts2 andV (of-singles andV refl) s (x .told) (y .told) (x .its) (y .its);
-  }
+    comes-leaf : {t : Term s} → shape n ≡ leaf t → Owns q n (leaf t) → ((c : ℕ) → LeafSet (getD b i 0) c → Made n 0 0 c) → Makes s ShapeC.Leaf
+    comes-leaf x law f c l = record { value = as-node n _ e (rw x (law 0 0 c (f c l))); past = ends n e (rw x refl) }
 
-  or-makes : {s : Sort} → getD b i 0 ≡ tagOf (anOr s) → Joined s
-  or-makes {s} e c d w m k x y l = record {
-    told = _;
-    evaluated = is-or e (x .evaluated) (y .evaluated) refl;
-    its = l .or s e ∙ acts2 orV (of-singles orV refl) s (x .told) (y .told) (x .its) (y .its);
-  }
+    comes-one : {f : Term s → Term s} → shape n ≡ one f → Owns q n (one f) → ((c d : ℕ) → OneSet (getD b i 0) c d → Made n c 0 d) → Makes s ShapeC.One
+    comes-one x law f c d m y l = record {
+      value = as-node n _ e (rw x (λ t h. law t 0 d (subst (λ z. Made n z 0 d) (y .value t h) (f c d l))));
+      past = ends n e (rw x (y .past));
+    }
+
+    comes-two : {r : Sort} {f : Term r → Term s → Term s} → shape n ≡ two r f → Owns q n (two r f)
+        → ((c d w : ℕ) → TwoSet (getD b i 0) c d w → Made n c d w) → Makes s (ShapeC.Two (sortName r))
+    comes-two {r} x law f c d w m k y z l =
+        let y' : Comes r b (i + 1) q c m = subst (λ o. Comes o b (i + 1) q c m) (named-sort r) y in
+        record {
+          value = as-two n x _ e (y' .past) (λ t u h g. law t u w
+              (subst (λ v. Made n v (worth q u) w) (y' .value t h) (subst (λ v. Made n c v w) (z .value u g) (f c d w l))));
+          past = ends n e (rw x (_, y' .past, z .past));
+        }
 
   makes : {s : Sort} (n : Node s) → getD b i 0 ≡ tagOf n → Makes s (shapeName (shape n))
-  makes anAtom e = λ c f. record { told = _; evaluated = is-atom e refl; its = f }
-  makes aDeny e = λ c l. record { told = _; evaluated = is-deny e refl; its = l .deny e }
-  makes anAllow e = λ c l. record { told = _; evaluated = is-allow e refl; its = l .allow e }
-  makes aTargeted e = λ c d w m k x y l. record {
-    told = _;
-    evaluated = is-targeted e (x .evaluated) (y .evaluated) refl;
-    its = l .targeted e .value (x .told) (x .its) ∙ ap (λ z. code (below (x .told) (setOf z))) (y .its);
-  }
-  makes (aNot s) e = λ c d m x l. record {
-    told = _;
-    evaluated = is-not e (x .evaluated) refl;
-    its = l .not s e ∙ acts notV (of-single notV refl) s (x .told) (x .its);
-  }
-  makes (aDefault s) e = λ c d m x l. record {
-    told = _;
-    evaluated = is-default e (x .evaluated) refl;
-    its = l .default s e ∙ acts defaultV (of-single defaultV refl) s (x .told) (x .its);
-  }
-  makes (anAnd target) e = and-makes e
-  makes (anAnd policy) e = and-makes e
-  makes (anOr target) e = or-makes e
-  makes (anOr policy) e = or-makes e
+  makes anAtom e = comes-numbers anAtom e refl (owns q anAtom)
+  makes aDeny e = comes-leaf aDeny e refl (owns q aDeny) (λ c l. l .deny e)
+  makes anAllow e = comes-leaf anAllow e refl (owns q anAllow) (λ c l. l .allow e)
+  makes aTargeted e = comes-two aTargeted e refl (owns q aTargeted) (λ c d w l. l .targeted e)
+  makes (aNot s) e = comes-one (aNot s) e refl (owns q (aNot s)) (λ c d l. l .not s e)
+  makes (aDefault s) e = comes-one (aDefault s) e refl (owns q (aDefault s)) (λ c d l. l .default s e)
+  makes (anAnd s) e = comes-two (anAnd s) e refl (owns q (anAnd s)) (λ c d w l. l .and s e)
+  makes (anOr s) e = comes-two (anOr s) e refl (owns q (anOr s)) (λ c d w l. l .or s e)
 
   made : {s : Sort} {g : ShapeC} {next : ℕ} → Tagged b s i g next → Makes s g
   made {s} t = subst (Makes s) (t .so) (makes (t .its) (t .byte))
@@ -110,7 +87,7 @@ module _ (b : List ℕ) (s : Sort) (left at nodes : ℕ) (q : Request) where
             let t = head-tagged _ _ _ _ _ _ _ _ h in
             let i : at + 5 ≡ m = omega (arith, pair-done _ _ _ e .0, t .behind) in
             subst (Comes s b at q (w % 8)) i
-            (made _ _ _ t _ (subst (λ n. w % 8 ≡ code (single (atomAt q (dec16 b n) (dec16 b (n + 2))))) (t .behind) (x .value e)))
+            (made _ _ _ t _ (subst (λ n. w % 8 ≡ atomCode q b n) (t .behind) (x .value e)))
 
     pub walked-leaf : {w c : ℕ} → heads (HeadC.Node ShapeC.Leaf next) → Scans (Scanned.Done next (nodes + 1)) (w / 8) → LeafSet (getD b at 0) c → w % 8 ≡ c
         → Walked s b at q there w

@@ -1,3 +1,3 @@
 pub mod Ordered
-pub mod Evaluated
+pub mod Worth
 pub mod Walked

@@ -2,32 +2,25 @@
 use Prim.Native.Nat.{ℕ, _+_, _/_, _%_, _<_}
 use mathlib.Core.Path.{_≡_}
 use mathlib.Core.List.{List}
-use Rattle.ptacl.specs.Value.{v1, v0, notV, defaultV, andV, orV}
-use Rattle.ptacl.specs.Values.{single, each, each2, code, setOf}
-use Rattle.ptacl.specs.Cases.{Targeted}
+use lib.ListN.{length}
+use Rattle.ptacl.specs.Values.{code}
 use Rattle.ptacl.specs.Request.{Request}
-use Rattle.ptacl.specs.Term.{Sort, target, policy, Policy, aDeny, anAllow, aTargeted, aNot, aDefault, anAnd, anOr, tagOf}
-use Rattle.ptacl.specs.Meaning.{atomAt, eval}
+use Rattle.ptacl.specs.Term.{Sort, Term, Policy, aDeny, anAllow, aTargeted, aNot, aDefault, anAnd, anOr, tagOf}
+use Rattle.ptacl.specs.Meaning.{eval}
 use Rattle.ptacl.specs.declared.DecisionSet.{DecisionSet}
-use Rattle.files.specs.Encoding.{IsPolicy}
-use Rattle.files.specs.Refusal.{dec16}
+use Rattle.files.specs.Encoding.{enc, IsPolicy}
+use Rattle.files.specs.Places.{At}
 use Rattle.files.specs.ReadPolicy.{readPolicy}
 use Rattle.files.specs.Cases.{Scans, policyRead}
 use Rattle.files.specs.declared.policy.Scanned.{Scanned}
 use Rattle.files.specs.declared.policy.PolicyRead.{PolicyRead}
-use Rattle.evaluate.specs.Evaluated.{Told, Evaluated}
+use Rattle.evaluate.specs.Worth.{worth, atomCode, Made}
 use Rattle.evaluate.specs.declared.single.Evaluation.{Evaluation}
 
--- an answer as the code of a set: a target's is the set of its value alone
-abbrev pub codeOf : (s : Sort) → Told s → ℕ
-codeOf target v = code (single v)
-codeOf policy c = c
-
--- the code of the evaluator's answer for what stands there
+-- the code of what every term that stands there comes to, and the place behind it
 pub record Comes (s : Sort) (b : List ℕ) (at : ℕ) (q : Request) (c next : ℕ) : Type 0 where
-  pub told : Told s
-  pub evaluated : Evaluated s b at q told next
-  pub its : c ≡ codeOf s told
+  pub value : (t : Term s) → At b at (enc t) → c ≡ worth q t
+  pub past : (t : Term s) → At b at (enc t) → next ≡ at + length (enc t)
 
 -- a number tells what is seen of reading a term and, if it was read, the code of what it comes to
 pub record Walked (s : Sort) (b : List ℕ) (at : ℕ) (q : Request) (seen : Scanned) (w : ℕ) : Type 0 where
@@ -37,23 +30,23 @@ pub record Walked (s : Sort) (b : List ℕ) (at : ℕ) (q : Request) (seen : Sca
 -- and so of an atom's numbers and the code of the atom's value
 pub record Numbered (b : List ℕ) (at : ℕ) (q : Request) (seen : Scanned) (w : ℕ) : Type 0 where
   pub reads : Scans seen (w / 8)
-  pub value : {next nodes : ℕ} → seen ≡ Scanned.Done next nodes → w % 8 ≡ code (single (atomAt q (dec16 b at) (dec16 b (at + 2))))
+  pub value : {next nodes : ℕ} → seen ≡ Scanned.Done next nodes → w % 8 ≡ atomCode q b at
 
--- what a node makes of the sets below it, by its tag and their codes
+-- what a node makes of the sets below it, by its tag
 pub record LeafSet (tag own : ℕ) : Type 0 where
-  pub deny : tag ≡ tagOf aDeny → own ≡ code (single v0)
-  pub allow : tag ≡ tagOf anAllow → own ≡ code (single v1)
+  pub deny : tag ≡ tagOf aDeny → Made aDeny 0 0 own
+  pub allow : tag ≡ tagOf anAllow → Made anAllow 0 0 own
   pub small : own < 8
 
 pub record OneSet (tag below own : ℕ) : Type 0 where
-  pub not : (s : Sort) → tag ≡ tagOf (aNot s) → own ≡ code (each notV (setOf below))
-  pub default : (s : Sort) → tag ≡ tagOf (aDefault s) → own ≡ code (each defaultV (setOf below))
+  pub not : (s : Sort) → tag ≡ tagOf (aNot s) → Made (aNot s) below 0 own
+  pub default : (s : Sort) → tag ≡ tagOf (aDefault s) → Made (aDefault s) below 0 own
   pub small : own < 8
 
 pub record TwoSet (tag first second own : ℕ) : Type 0 where
-  pub targeted : tag ≡ tagOf aTargeted → Targeted first second own
-  pub and : (s : Sort) → tag ≡ tagOf (anAnd s) → own ≡ code (each2 andV (setOf first) (setOf second))
-  pub or : (s : Sort) → tag ≡ tagOf (anOr s) → own ≡ code (each2 orV (setOf first) (setOf second))
+  pub targeted : tag ≡ tagOf aTargeted → Made aTargeted first second own
+  pub and : (s : Sort) → tag ≡ tagOf (anAnd s) → Made (anAnd s) first second own
+  pub or : (s : Sort) → tag ≡ tagOf (anOr s) → Made (anOr s) first second own
   pub small : own < 8
 
 -- the answer of reading a file, and the set that its policy comes to

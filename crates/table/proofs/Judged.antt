@@ -17,10 +17,9 @@ use Rattle.ptacl.proofs.Rules.{nonempty}
 use Rattle.files.specs.Encoding.{Bytes}
 use Rattle.files.specs.Refusal.{dec16}
 use Rattle.files.specs.Places.{Has}
-use Rattle.files.proofs.View.{body-at}
-use Rattle.files.proofs.View.{Ends}
-use Rattle.evaluate.specs.Evaluated.{Evaluated}
-use Rattle.evaluate.proofs.Nodes.{act-told, act2-told, of-pair, is-atom, is-deny, is-allow, is-targeted, is-not, is-default, is-and, is-or}
+use Rattle.files.proofs.View.{Ends, of-pair, body-at}
+use Rattle.table.specs.Evaluated.{Evaluated}
+use Rattle.table.proofs.Nodes.{act-told, act2-told, is-atom, is-deny, is-allow, is-targeted, is-not, is-default, is-and, is-or}
 use Rattle.table.specs.declared.row.Row.{Row}
 use Rattle.table.specs.declared.judge.TargetRow.{TargetRow}
 use Rattle.table.specs.declared.judge.PolicyRow.{PolicyRow}

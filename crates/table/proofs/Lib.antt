@@ -3,5 +3,6 @@ pub mod Rows
 pub mod Lanes
 pub mod Numbered
 pub mod Pass
+pub mod Nodes
 pub mod Judged
 pub mod Filled

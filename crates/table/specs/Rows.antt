@@ -10,7 +10,7 @@ use Rattle.ptacl.specs.Term.{target, policy, Policy}
 use Rattle.ptacl.specs.Pairs.{unpacked}
 use Rattle.ptacl.specs.Exposure.{Reading, bit}
 use Rattle.files.specs.Encoding.{enc}
-use Rattle.evaluate.specs.Evaluated.{Evaluated}
+use Rattle.table.specs.Evaluated.{Evaluated}
 use Rattle.table.specs.declared.row.Row.{Row}
 use Rattle.table.specs.declared.judge.TargetRow.{TargetRow}
 use Rattle.table.specs.declared.judge.PolicyRow.{PolicyRow}

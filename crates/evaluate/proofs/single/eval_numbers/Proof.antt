@@ -1,9 +1,9 @@
 -- `eval_numbers` meets its contract.
-use mathlib.Core.Path.{sym, ap, subst, _∙_}
+use mathlib.Core.Path.{sym, subst, _∙_}
+use mathlib.Core.List.{map}
 use native.Mathlib.Omega.{arith}
 use borrow.Author.Needs.{needs}
-use mathlib.Core.List.{map}
-use Rattle.ptacl.specs.Values.{single, code}
+use Rattle.ptacl.specs.Values.{single}
 use Rattle.ptacl.specs.Pairs.{unpacked}
 use Rattle.ptacl.specs.Cases.{valueOf}
 use Rattle.ptacl.proofs.Codes.{code-small}
@@ -12,7 +12,7 @@ use Rattle.files.specs.Places.{numbersOf}
 use Rattle.files.specs.Cases.{seen, Small, Scans}
 use Rattle.files.proofs.Framing.{lent-bytes}
 use Rattle.files.proofs.PolicySeen.{small-pair, pair-done, word-below, scans}
-use Rattle.evaluate.proofs.Nodes.{of-pair}
+use Rattle.evaluate.proofs.Worth.{atom-code}
 use Rattle.evaluate.proofs.single.eval_numbers.Statement.{statement}
 use Rattle.evaluate.proofs.single.eval_numbers.Tie as tie
 
@@ -32,7 +32,9 @@ returns c = record {
 returns-2 : tie.Need-returns-2
 returns-2 c = record {
   reads = subst (Scans _) (sym (c .with-set2 .ensures .0)) (told (c .before .before .before .before .before));
-  value = λ e. c .with-set2 .ensures .1 ∙ c .before .single .ensures ∙ ap (λ v. code (single v)) (of-pair (c .before .before .before .before .before .before .before .before .before .args .file .now) (c .before .before .before .before .before .before .before .before .before .args .at) (map unpacked (numbersOf (c .before .before .before .before .before .before .before .before .before .args .request .now))) (lent-bytes (c .before .before .before .before .before .before .before .before .shared-slice-known .given)) (c .before .before .before .pair .ensures) (c .before .before .atom .ensures));
+  value = λ e.
+      let a = c .before .before .before .before .before .before .before .before .before .args in
+      c .with-set2 .ensures .1 ∙ atom-code (a .file .now) (a .at) (map unpacked (numbersOf (a .request .now))) (lent-bytes (c .before .before .before .before .before .before .before .before .shared-slice-known .given)) (c .before .before .before .pair .ensures) (c .before .before .atom .ensures) (c .before .single .ensures);
 }
 
 pub eval-numbers-spec : {M : Type 1} → statement M

@@ -37,7 +37,7 @@ returns-3 c = record {
   reads = sym (c .before .enum-told2 .given .1) ∙ read (c .before .before .before);
   set = λ e p f.
       let x = c .before .before .before .before .eval-term .ensures .comes (accepted-ended _ (scan (inBytes 255 (c .before .before .before .before .before .before .before .before .before .before .args .file .now)) 32 policy tt 3 0) (file-framed _ (whole (c .before .before .before .before .before)) ∙ sym (read (c .before .before .before)) ∙ c .before .enum-told2 .given .1) .is) in
-      same e ∙ c .set-of .ensures ∙ x .its ∙ x .evaluated .value p (file-at f);
+      same e ∙ c .set-of .ensures ∙ x .value p (file-at f);
 }
 
 pub eval-policy-spec : {M : Type 1} → statement M

@@ -7,7 +7,7 @@ use borrow.Fn.Kinds.{In}
 use borrow.Fn.PlainCycle.{Measures, is, falls, and}
 use Rattle.ptacl.specs.Term.{policy, aTargeted, anAnd, anOr, tagOf}
 use Rattle.files.proofs.View.{parts, Inner, joins-tag, and-tag, has-room, has-left, has-inner, has-first}
-use Rattle.evaluate.proofs.Nodes.{for-part}
+use Rattle.table.proofs.Nodes.{for-part}
 use Rattle.table.proofs.Judged.{target-ends, policy-ends, deny-judged, allow-judged, targeted-judged}
 use Rattle.table.proofs.Judged.{policy-not-judged, policy-default-judged, policy-and-judged, policy-or-judged, some-judged}
 use Rattle.table.proofs.judge.judge_policy.Reads as reads

@@ -9,7 +9,7 @@ use Rattle.ptacl.specs.Term.{target, anAtom, anAnd, anOr, tagOf}
 use Rattle.files.proofs.Framing.{lent-bytes}
 use Rattle.files.proofs.View.{parts, joins-tag, and-tag, has-room, has-left, has-inner, has-first}
 use Rattle.files.proofs.bytes.pair.Reads as pair-reads
-use Rattle.evaluate.proofs.Nodes.{for-part}
+use Rattle.table.proofs.Nodes.{for-part}
 use Rattle.table.proofs.Judged.{target-ends, atom-judged, not-judged, default-judged, and-judged, or-judged}
 use Rattle.table.proofs.judge.judge_target.Reads as reads
 use Rattle.table.proofs.judge.judge_target.Kinds as kinds

@@ -1,5 +1,5 @@
 -- For any evaluator that promises `Evaluated`: what the answers for a node's parts make of the whole, one law a node.
-use Prim.Native.Nat.{ℕ, _+_, _-_, _/_, _%_, _<_}
+use Prim.Native.Nat.{ℕ, _+_, _-_, _<_}
 use mathlib.Core.Path.{_≡_, refl, sym, ap, ap₂, _∙_}
 use mathlib.Core.List.{List}
 use native.Mathlib.Nat.{add-assoc}
@@ -10,15 +10,12 @@ use Rattle.ptacl.specs.Values.{single, each, each2, under, code, setOf}
 use Rattle.ptacl.specs.Request.{Request}
 use Rattle.ptacl.specs.Term.{Sort, target, policy, Term, Node, anAtom, aDeny, anAllow, aTargeted, aNot, aDefault, anAnd, anOr, tagOf, two, shape}
 use Rattle.ptacl.specs.Meaning.{Meaning, lift, lift2, atomAt, eval}
-use Rattle.ptacl.specs.Pairs.{packed, unpacked}
 use Rattle.ptacl.proofs.Codes.{code-set}
-use Rattle.files.specs.Encoding.{enc, Bytes}
+use Rattle.files.specs.Encoding.{enc}
 use Rattle.files.specs.Refusal.{dec16}
 use Rattle.files.specs.Places.{At, Has}
-use Rattle.files.proofs.BigEndian.{dec16-range}
-use Rattle.files.proofs.Numbers.{unpacked-packed}
 use Rattle.files.proofs.View.{has-left, as-node, as-two, ends}
-use Rattle.evaluate.specs.Evaluated.{Told, told, Evaluated}
+use Rattle.table.specs.Evaluated.{Told, told, Evaluated}
 
 -- what an operation on values makes of an answer, and of two answers
 abbrev pub act : (Value → Value) → (s : Sort) → Told s → Told s
@@ -48,14 +45,6 @@ acted f {s = s} {q = q} x e t h = e ∙ ap (act f s) (x .value t h) ∙ act-told
 pub for-part : {s : Sort} {b : List ℕ} {i left t m : ℕ} {P : Type 0} → (left ≡ t) × (Has s b i left × P) → Has s b m (left - 1)
     → (left - 1 < t) × (Has s b m (left - 1) × P)
 for-part p h = (omega (arith, has-left (p .1 .0)), (h, p .1 .1))
-
--- an atom's pair, as a number, tells the two that stand there
-pub of-pair : (b : List ℕ) (i : ℕ) (q : Request) {x : ℕ} {v : Value} → Bytes b → x ≡ packed (dec16 b i, dec16 b (i + 2))
-    → v ≡ atomAt q (x / 65536) (x % 65536) → v ≡ atomAt q (dec16 b i) (dec16 b (i + 2))
-of-pair b i q {x} bs e f = f ∙ ap (λ y. atomAt q (y .0) (y .1)) its
-  where
-    its : unpacked x ≡ (dec16 b i, dec16 b (i + 2))
-    its = ap unpacked e ∙ unpacked-packed _ (dec16-range bs (i + 2))
 
 module _ {b : List ℕ} {i : ℕ} {q : Request} where
   pub is-atom : {v : Value} → getD b i 0 ≡ tagOf anAtom → v ≡ atomAt q (dec16 b (i + 1)) (dec16 b (i + 1 + 2)) → Evaluated target b i q v (i + 5)

@@ -1,4 +1,4 @@
--- What the evaluator promises: its answer is that of every term that stands there, and the next place is behind it.
+-- What a judge of one request promises: its answer is that of every term that stands there, and the next place is behind it.
 use Prim.Native.Nat.{ℕ, _+_}
 use mathlib.Core.Path.{_≡_}
 use mathlib.Core.List.{List}
