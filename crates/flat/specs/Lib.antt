@@ -1,0 +1,4 @@
+pub mod Places
+pub mod Due
+pub mod Read
+pub mod Finished
