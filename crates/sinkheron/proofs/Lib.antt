@@ -1,6 +1,7 @@
 pub mod Taken
 pub mod Written
 pub mod DecideOne
+pub mod FlatSame
 pub mod ListPairsOne
 pub mod OutputOne
 pub mod CertifyOne

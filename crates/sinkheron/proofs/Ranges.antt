@@ -30,7 +30,7 @@ use Rattle.text.specs.Line.{IsText}
 use Rattle.text.proofs.Near.{line-short, file-short, text-refused}
 use Rattle.search.specs.Found.{twoFiles, exposureFiles}
 use Rattle.search.proofs.Chosen.{subset-most, subset-less}
-use Rattle.sinkheron.specs.Answer.{Answer, refusal, success, Promise}
+use Rattle.sinkheron.specs.Answer.{Answer, refusal, success, place, Promise}
 use Rattle.sinkheron.specs.Ways.{OfPolicy, OfText, OfRequest, RefusedIf}
 use Rattle.sinkheron.specs.Decide as D
 use Rattle.sinkheron.specs.ListPairs as L
@@ -121,6 +121,11 @@ read-text-ranged = text-ranged (λ p f. refused-if-ranged refl (λ e. gives-hold
 
 pub write-text-ranged : {s before : List ℕ} → Bytes s → Ranged (λ k. k ≤ 4590) (W.WritesText s before)
 write-text-ranged b = policy-ranged b (λ p f. refused-if-ranged refl (λ e. gives-holds Refused (λ k. k ≤ 4590) (line-short (f .fits))))
+
+-- a decision's place has room in its bits
+pub place-small : (x : Answer ℕ) → Range (λ k. k ≤ 7) x → place x ≤ 65538
+place-small (refusal n at) r = r .2
+place-small (success k) r = omega arith
 
 -- whatever was written, its length has room in its bits
 pub output-small : (most : ℕ) → most ≤ 65535 → (x : Answer ℕ) → Range (λ k. k ≤ most) x → Small x

@@ -1,10 +1,12 @@
 -- What was answered and written, by what the code has: the set's code, the list of the pairs, the file of the normal form, the verdict.
 use Prim.Native.Nat.{ℕ, _+_, _*_, _<_, _≤_}
 use mathlib.Core.Path.{_≡_, sym, ap, _∙_}
+use mathlib.Core.Bool.{Bool}
 use mathlib.Core.List.{List, map}
 use native.Mathlib.Omega.{arith}
+use lib.Dec.{eqb}
 use lib.ListN.{length}
-use borrow.Author.Tests.{eq-eqb, ne-eqb, lt-ltb, le-ltb}
+use borrow.Author.Tests.{lt-ltb, le-ltb}
 use Rattle.ptacl.specs.Request.{Pair, Request}
 use Rattle.ptacl.specs.Term.{Policy, atoms}
 use Rattle.ptacl.specs.Pairs.{IsPairs, IsNormal, packed, unpacked}
@@ -13,26 +15,44 @@ use Rattle.ptacl.specs.Meaning.{eval}
 use Rattle.ptacl.proofs.Codes.{empty-code}
 use Rattle.ptacl.proofs.Exposed.{resistant-iff}
 use Rattle.files.specs.Encoding.{requestFile, IsPolicy, IsRequest}
+use Rattle.files.specs.ReadPolicy.{readPolicy}
+use Rattle.files.specs.ReadRequest.{readRequest}
+use Rattle.files.specs.Places.{PolicyFile, numbersOf}
+use Rattle.files.specs.Cases.{policyRead, requestRead}
+use Rattle.files.specs.declared.policy.PolicyRead.{PolicyRead}
+use Rattle.files.specs.declared.request.RequestRead.{RequestRead}
 use Rattle.files.specs.Memory.{over}
 use Rattle.files.proofs.Memory.{request-length}
+use Rattle.files.proofs.View.{policy-refused}
+use Rattle.files.proofs.RequestExact.{request-refused}
 use Rattle.search.specs.Found.{Found, none, first}
 use Rattle.search.specs.declared.Verdict.{Verdict}
 use Rattle.pairs.specs.Lists.{Pairs, numbers}
 use Rattle.pairs.proofs.Callers.{Listed}
 use Rattle.sinkheron.specs.Answer.{Answer, refusal, success}
-use Rattle.sinkheron.specs.Ways.{holding, the, stops, passes, gives}
+use Rattle.sinkheron.specs.Ways.{RefusedIf, Gives, unread, holding, the, stops, passes, gives}
 use Rattle.sinkheron.specs.Decide as D
 use Rattle.sinkheron.specs.ListPairs as L
 use Rattle.sinkheron.specs.NormalForm as N
 use Rattle.sinkheron.specs.Search as S
+use Rattle.sinkheron.proofs.Taken.{Sent}
 
--- the set, by its code
-module _ {s t : List ℕ} {p : Policy} {q : Request} {k : ℕ} (f : IsPolicy s p) (g : IsRequest t q) (e : k ≡ code (eval p q)) where
-  pub empty-set : k ≡ 0 → D.Decides s t (refusal 14 0) tt
-  empty-set z = holding f (holding g (stops (empty-code _ ∙ eq-eqb _ 0 (sym e ∙ z))))
+of-set : {test : Bool} {k n : ℕ} {x : Answer ℕ} → test ≡ eqb k 0 → k ≡ n → D.OfSet k x (tt {0}) → RefusedIf test 14 0 (tt {0}) (Gives n tt) x tt
+of-set t e h = rw (t, ← e) h
 
-  pub some-set : (k ≡ 0 → ⊥) → D.Decides s t (success k) tt
-  some-set n = rw e (holding f (holding g (passes (empty-code _ ∙ ne-eqb _ 0 (λ z. n (e ∙ z))) gives)))
+-- a decision: the policy's refusal; the request's; what follows for the set, by its code
+module _ {s t : List ℕ} where
+  pub policy-refuses : {n at : ℕ} → policyRead (readPolicy s) ≡ PolicyRead.Refused n at → D.Decides s t (refusal n at) tt
+  policy-refuses e = unread (policy-refused (readPolicy s) e)
+
+  pub request-refuses : PolicyFile s → {n at : ℕ} → requestRead (readRequest t) ≡ RequestRead.Refused n at → D.Decides s t (refusal n at) tt
+  request-refuses f e = holding (f .file) (unread (request-refused (readRequest t) e))
+
+  pub set-answers : (f : PolicyFile s) (g : Sent t) {k : ℕ} {x : Answer ℕ} → k ≡ code (eval (f .term) (map unpacked (numbersOf t))) → D.OfSet k x tt
+      → D.Decides s t x tt
+  set-answers f g {k} e h =
+      let c : k ≡ code (eval (f .term) (g .request)) = e ∙ ap (λ q. code (eval (f .term) q)) (g .pairs) in
+      holding (f .file) (holding (g .file) (of-set (empty-code (eval (f .term) (g .request)) ∙ ap (λ n. eqb n 0) (sym c)) c h))
 
 -- a verdict as the paper has it
 abbrev pub answer : ℕ → Verdict → Answer S.Values

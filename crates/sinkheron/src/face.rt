@@ -9,7 +9,7 @@ ghost use Rattle.sinkheron.specs.ReadText as R;
 ghost use Rattle.sinkheron.specs.WriteText as W;
 ghost use Rattle.sinkheron.specs.Certify as C;
 ghost use Rattle.sinkheron.specs.Search as S;
-ghost use Rattle.sinkheron.specs.Answer.{word, Says};
+ghost use Rattle.sinkheron.specs.Answer.{place, word, Says};
 use crate::Certified;
 use crate::Decision;
 use crate::Listing;
@@ -22,6 +22,17 @@ fn refusal(number: u8, place: usize) -> u64
     ensures { λ r. ⌜ r ≡ number + place * 2 ^ 8 ⌝ }
 {
     number as u64 + place as u64 * 256
+}
+
+// A set, by its code.
+fn decision(answer: Decision) -> u64
+    requires { ⌜ place (D.answerOf answer) ≤ 65538 ⌝ }
+    ensures { λ r. ⌜ r ≡ word D.bits (D.answerOf answer) ⌝ }
+{
+    match answer {
+        Decision::Refused { number, place } => refusal(number, place),
+        Decision::Decided(set) => set.code as u64 * 256,
+    }
 }
 
 // What was written, by its length.
@@ -51,10 +62,14 @@ fn exposure(pairs: usize, bytes: usize, m: usize, i: usize) -> u64
 pub extern "C" fn sinkheron_decide(policy: &[u8], request: &[u8]) -> u64
     ensures { λ r. ⌜ Says D.answerOf D.bits (D.Decides (now (policy .entry)) (now (request .entry))) r tt ⌝ }
 {
-    match crate::decide(policy, request) {
-        Decision::Refused { number, place } => refusal(number, place),
-        Decision::Decided(set) => set.code as u64 * 256,
-    }
+    decision(crate::decide(policy, request))
+}
+
+#[no_mangle]
+pub extern "C" fn sinkheron_decide_flat(policy: &[u8], request: &[u8]) -> u64
+    ensures { λ r. ⌜ Says D.answerOf D.bits (D.Decides (now (policy .entry)) (now (request .entry))) r tt ⌝ }
+{
+    decision(crate::decide_flat(policy, request))
 }
 
 #[no_mangle]

@@ -15,6 +15,7 @@ ghost use Rattle.sinkheron.specs.Search as S;
 use evaluate::single::Evaluation;
 use files::policy::PolicyRead;
 use files::request::RequestRead;
+use flat::read::FlatRead;
 use ptacl::DecisionSet;
 use search::Verdict;
 use text::convert::Parsed;
@@ -76,6 +77,19 @@ fn read_files(policy: &[u8], request: &[u8]) -> FilesRead
     }
 }
 
+// The answer for the set that a policy comes to.
+fn decided(set: DecisionSet) -> Decision
+    ensures { λ r. ⌜ D.OfSet (set .code) (D.answerOf r) tt ⌝ }
+{
+    if set.code == 0 {
+        return Decision::Refused {
+            number: 14,
+            place: 0,
+        };
+    }
+    Decision::Decided(set)
+}
+
 // What the policy comes to for the request. Only allow alone, the set's code 1, releases.
 pub fn decide(policy: &[u8], request: &[u8]) -> Decision
     ensures { λ r. ⌜ D.Decides (now (policy .entry)) (now (request .entry)) (D.answerOf r) tt ⌝ }
@@ -89,15 +103,21 @@ pub fn decide(policy: &[u8], request: &[u8]) -> Decision
     }
     match evaluate::single::eval_policy(policy, request) {
         Evaluation::Refused { number, place } => Decision::Refused { number, place },
-        Evaluation::Set(set) => {
-            if set.code == 0 {
-                return Decision::Refused {
-                    number: 14,
-                    place: 0,
-                };
-            }
-            Decision::Decided(set)
-        }
+        Evaluation::Set(set) => decided(set),
+    }
+}
+
+// The same without calls that nest: one loop reads the policy, another evaluates it.
+pub fn decide_flat(policy: &[u8], request: &[u8]) -> Decision
+    ensures { λ r. ⌜ D.Decides (now (policy .entry)) (now (request .entry)) (D.answerOf r) tt ⌝ }
+{
+    let mut places = [0u16; 256];
+    match flat::read::read_flat(policy, &mut places) {
+        FlatRead::Refused { number, place } => Decision::Refused { number, place },
+        FlatRead::Accepted { nodes } => match files::request::read_request(request, 21) {
+            RequestRead::Refused { number, place } => Decision::Refused { number, place },
+            RequestRead::Accepted => decided(flat::walk::walk(policy, &places[..nodes], request)),
+        },
     }
 }
 
