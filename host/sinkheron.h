@@ -49,6 +49,10 @@ extern "C" {
  * Only allow alone, code 1, releases a batch. Numbers 1 to 8, 15, 21 to 26, 14. */
 uint64_t sinkheron_decide(const uint8_t *policy, size_t policy_len, const uint8_t *request, size_t request_len);
 
+/* The same answer on all inputs, without calls that nest: nothing that it calls calls itself, calls go at most two deep, and 752 bytes of
+ * stack suffice beside the call's own (measured; decide uses 4744). */
+uint64_t sinkheron_decide_flat(const uint8_t *policy, size_t policy_len, const uint8_t *request, size_t request_len);
+
 /* Whether leaving a fact out of a request can open a release, for a policy of at most 16 pairs: bit 8 has the verdict (0 resistant,
  * 1 exposed), bits 16 to 23 the number of pairs, bits 24 to 31 the bytes written, bits 32 to 47 m, bits 48 to 63 i. Exposed: the
  * subset m of the policy's pairs is not released, without pair i it is; the space begins with the smaller request's file and
@@ -91,7 +95,7 @@ static inline unsigned sinkheron_hides(uint64_t word) { return (unsigned)(word >
 /* Of the file or line written. */
 static inline unsigned sinkheron_file_length(uint64_t word) { return (unsigned)(word >> 32 & 0xffff); }
 
-/* Whether the word is decide's answer that releases: number 0 and allow alone. */
+/* Whether the word is decide's answer, or decide_flat's, that releases: number 0 and allow alone. */
 static inline int sinkheron_releases(uint64_t word) { return word == (uint64_t)1 << 8; }
 
 #ifdef __cplusplus
