@@ -1,8 +1,6 @@
 /* Document 01's worked policies and edges, document 02's written form, its telling of tags and its or through the C face, all operations. */
 #include "../sinkheron.h"
-
-#include <stdio.h>
-#include <string.h>
+#include "file.h"
 
 static int passed, failed;
 
@@ -21,39 +19,13 @@ static void expect_bytes(const char *what, const uint8_t *got, const uint8_t *wa
     expect(what, (uint64_t)(memcmp(got, wanted, count) != 0), 0);
 }
 
-struct file {
-    size_t length;
-    uint8_t bytes[70000];
-};
-
-/* A file by its body in hexadecimal. */
-static void file(struct file *f, const char *body)
-{
-    size_t n = 0;
-    for (const char *c = body; *c; c++) {
-        unsigned byte;
-        if (*c == ' ')
-            continue;
-        sscanf(c, "%2x", &byte);
-        f->bytes[3 + n++] = (uint8_t)byte;
-        c++;
-    }
-    f->bytes[0] = 1;
-    f->bytes[1] = (uint8_t)(n >> 8);
-    f->bytes[2] = (uint8_t)n;
-    f->length = 3 + n;
-}
-
 /* A file by repeated bytes and an end. */
 static void repeated(struct file *f, uint8_t byte, size_t count, const char *end)
 {
-    file(f, end);
-    size_t tail = f->length - 3, n = count + tail;
-    memmove(f->bytes + 3 + count, f->bytes + 3, tail);
     memset(f->bytes + 3, byte, count);
-    f->bytes[1] = (uint8_t)(n >> 8);
-    f->bytes[2] = (uint8_t)n;
-    f->length = 3 + n;
+    f->length = 3 + count;
+    put_hex(f, end);
+    put_frame(f);
 }
 
 static uint64_t refused(unsigned number, uint64_t place) { return number | place << 8; }
