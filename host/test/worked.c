@@ -1,4 +1,5 @@
-/* Document 01's worked policies and edges, document 02's written form, its telling of tags and its or through the C face, all operations. */
+/* Document 01's worked policies and edges, document 02's written form, its telling of tags, its or and its second engine of decide through the
+ * C face, all operations. */
 #include "../sinkheron.h"
 #include "file.h"
 
@@ -17,6 +18,14 @@ static void expect(const char *what, uint64_t got, uint64_t wanted)
 static void expect_bytes(const char *what, const uint8_t *got, const uint8_t *wanted, size_t count)
 {
     expect(what, (uint64_t)(memcmp(got, wanted, count) != 0), 0);
+}
+
+/* What the policy comes to for the request: the two engines say the same, whatever the row asks of their word. */
+static uint64_t decide(const uint8_t *policy, size_t policy_len, const uint8_t *request, size_t request_len)
+{
+    uint64_t word = sinkheron_decide(policy, policy_len, request, request_len);
+    expect("decide_flat beside decide", sinkheron_decide_flat(policy, policy_len, request, request_len), word);
+    return word;
 }
 
 /* A file by repeated bytes and an end. */
@@ -53,13 +62,13 @@ static void sets(void)
     for (size_t k = 0; k < sizeof row / sizeof *row; k++) {
         file(&p, row[k].policy);
         file(&q, row[k].request);
-        expect("set", sinkheron_decide(p.bytes, p.length, q.bytes, q.length), (uint64_t)row[k].set << 8);
+        expect("set", decide(p.bytes, p.length, q.bytes, q.length), (uint64_t)row[k].set << 8);
     }
     file(&q, "00010002");
     file(&p, A);
-    expect("only allow alone releases", (uint64_t)sinkheron_releases(sinkheron_decide(p.bytes, p.length, q.bytes, q.length)), 1);
+    expect("only allow alone releases", (uint64_t)sinkheron_releases(decide(p.bytes, p.length, q.bytes, q.length)), 1);
     file(&q, "");
-    expect("a missing fact holds", (uint64_t)sinkheron_releases(sinkheron_decide(p.bytes, p.length, q.bytes, q.length)), 0);
+    expect("a missing fact holds", (uint64_t)sinkheron_releases(decide(p.bytes, p.length, q.bytes, q.length)), 0);
 }
 
 static void verdicts(void)
@@ -130,7 +139,7 @@ static void edges(void)
     expect("no bytes", sinkheron_certify(p.bytes, 0), refused(1, 0));
     expect("two bytes", sinkheron_certify(p.bytes, 2), refused(1, 2));
     file(&p, F);
-    expect("request of no bytes", sinkheron_decide(p.bytes, p.length, q.bytes, 0), refused(21, 0));
+    expect("request of no bytes", decide(p.bytes, p.length, q.bytes, 0), refused(21, 0));
     for (int k = 0; k < 8; k++) {
         sprintf(one, "22 10 %04x 0001 ", k);
         strcat(names, one);
@@ -152,9 +161,9 @@ static void edges(void)
     }
     q.bytes[1] = 4;
     q.bytes[2] = 0;
-    expect("256 pairs", sinkheron_decide(p.bytes, p.length, q.bytes, 1027), (uint64_t)1 << 8);
+    expect("256 pairs", decide(p.bytes, p.length, q.bytes, 1027), (uint64_t)1 << 8);
     q.bytes[2] = 4;
-    expect("257 pairs", sinkheron_decide(p.bytes, p.length, q.bytes, 1031), refused(25, 1027));
+    expect("257 pairs", decide(p.bytes, p.length, q.bytes, 1031), refused(25, 1027));
     memset(p.bytes, 0x20, sizeof p.bytes);
     p.bytes[0] = 1;
     p.bytes[1] = p.bytes[2] = 255;
@@ -210,8 +219,8 @@ struct lent {
 
 static const struct lent enough = {3, LONGEST_LINE, MOST_PAIRS, {1, 0, 0}, {0}, {0}}, nothing;
 
-/* The words of the six operations that read a policy file. */
-enum { READERS = 6 };
+/* The words of the seven operations that read a policy file. */
+enum { READERS = 7 };
 
 static void read_by_all(const struct file *f, size_t length, struct lent *l, uint64_t *word)
 {
@@ -221,6 +230,7 @@ static void read_by_all(const struct file *f, size_t length, struct lent *l, uin
     word[3] = sinkheron_certify(f->bytes, length);
     word[4] = sinkheron_search(f->bytes, length, l->space, l->space_len);
     word[5] = sinkheron_write_text(f->bytes, length, l->space, l->space_len);
+    word[6] = sinkheron_decide_flat(f->bytes, length, l->request, l->request_len);
 }
 
 static void expect_read(const char *what, const struct file *f)
@@ -271,20 +281,51 @@ static void unread_files(void)
     }
 }
 
+/* Each refusal of a file, by its bytes. */
+struct refused_file {
+    const char *bytes;
+    unsigned number;
+    uint64_t place;
+};
+
+static const struct refused_file policies_refused[] = {
+    {"", 1, 0}, {"01", 1, 1}, {"01 00", 1, 2}, {"00 0001 21", 2, 0}, {"02 0001 21", 2, 0}, {"01 0000 21", 3, 1}, {"01 0002 21", 3, 1},
+    {"01 0100 21", 3, 1}, {"01 0000", 4, 3}, {"01 0002 25 21", 4, 5}, {"01 0005 22 10 0001 00", 4, 8}, {"01 0001 27", 5, 3},
+    {"01 0002 22 15", 5, 4}, {"01 0003 22 20 20", 15, 4}, {"01 0001 10", 15, 3}, {"01 0021 32( 23 ) 21", 6, 35},
+    {"01 0026 31( 23 ) 22 10 0001 0001 21", 6, 35}, {"01 0041 32( 25 ) 33( 21 )", 6, 35}, {"01 0002 21 21", 8, 4},
+    {"01 0100 21( 25 23 23 23 23 23 23 23 23 23 23 21 ) 23 23 23 21", 7, 258},
+};
+
+static const struct refused_file requests_refused[] = {
+    {"", 21, 0}, {"01", 21, 1}, {"01 00", 21, 2}, {"00 0000", 22, 0}, {"02 0000", 22, 0}, {"01 0001", 23, 1}, {"01 0000 00", 23, 1},
+    {"01 0400 0001 0001", 23, 1}, {"01 0001 00", 24, 3}, {"01 0403 256( 0001 0001 ) 0001 00", 24, 3}, {"01 0404 257( 0001 0001 )", 25, 1027},
+    {"01 0008 0001 0001 0001 0001", 26, 7}, {"01 0008 0002 0001 0001 0001", 26, 7}, {"01 000c 0001 0001 0002 0001 0001 0002", 26, 11},
+};
+
+enum { POLICIES_REFUSED = sizeof policies_refused / sizeof *policies_refused, REQUESTS_REFUSED = sizeof requests_refused / sizeof *requests_refused };
+
 /* A policy's refusal comes before each refusal of the request. */
+static void expect_policy_first(const struct refused_file *policy, const struct refused_file *request)
+{
+    static struct file p, q;
+    uint64_t wanted = refused(policy->number, policy->place);
+    whole_file(&p, policy->bytes);
+    whole_file(&q, request->bytes);
+    expect(policy->bytes, decide(p.bytes, p.length, q.bytes, q.length), wanted);
+    expect(policy->bytes, sinkheron_normal_form(p.bytes, p.length, q.bytes, q.length, NULL, 0), wanted);
+}
+
 static void policy_before_request(void)
 {
-    static struct file p;
-    static const struct { unsigned number; size_t length; uint8_t bytes[11]; } row[] = {
-        {21, 2, {1, 0}}, {22, 3, {2, 0, 0}}, {23, 3, {1, 0, 1}}, {24, 4, {1, 0, 1, 0}}, {26, 11, {1, 0, 8, 0, 1, 0, 1, 0, 1, 0, 1}},
-    };
-    for (size_t k = 0; k < sizeof row / sizeof *row; k++) {
-        file(&p, "20");
-        expect("a request at fault", sinkheron_number(sinkheron_decide(p.bytes, p.length, row[k].bytes, row[k].length)), row[k].number);
-        file(&p, "22 20 20");
-        expect("15 before it", sinkheron_decide(p.bytes, p.length, row[k].bytes, row[k].length), refused(15, 4));
-        expect("15 before it", sinkheron_normal_form(p.bytes, p.length, row[k].bytes, row[k].length, NULL, 0), refused(15, 4));
+    static struct file p, q;
+    file(&p, "20");
+    for (size_t k = 0; k < REQUESTS_REFUSED; k++) {
+        whole_file(&q, requests_refused[k].bytes);
+        expect(requests_refused[k].bytes, decide(p.bytes, p.length, q.bytes, q.length),
+               refused(requests_refused[k].number, requests_refused[k].place));
     }
+    for (size_t k = 0; k < POLICIES_REFUSED * REQUESTS_REFUSED; k++)
+        expect_policy_first(&policies_refused[k / REQUESTS_REFUSED], &requests_refused[k % REQUESTS_REFUSED]);
 }
 
 /* Where a node is due: its sort, and what stands before it and behind it. */
@@ -416,7 +457,7 @@ static uint64_t decided(const char *policy, const char *request)
     static struct file p, q;
     file(&p, policy);
     file(&q, request);
-    return sinkheron_decide(p.bytes, p.length, q.bytes, q.length);
+    return decide(p.bytes, p.length, q.bytes, q.length);
 }
 
 /* A targeted allow tells its target's value: 1 by allow alone, 0 by undefined alone, undefined by both. */
@@ -432,20 +473,22 @@ static void ors_of_values(void)
         expect("or of values", decided("22 14" ATOM OTHER "21", row[k].request), (uint64_t)row[k].value << 8);
 }
 
-/* Policies that come to the sets 1 to 7 at the empty request, and the or of each two. */
+/* Policies that come to the sets 1 to 7 where the request has nothing of the name 1. */
+enum { SETS = 7 };
+static const char *const of_set[SETS] = {
+    "21", "20", "24 22" ATOM "21", "22 12" ATOM "21", "22" ATOM "21", "22" ATOM "20", "22" ATOM "24 22" ATOM "21",
+};
+
+/* The or of each two. */
 static void ors_of_sets(void)
 {
-    enum { SETS = 7 };
-    static const char *const side[SETS] = {
-        "21", "20", "24 22" ATOM "21", "22 12" ATOM "21", "22" ATOM "21", "22" ATOM "20", "22" ATOM "24 22" ATOM "21",
-    };
     static const uint8_t wanted[SETS][SETS] = {
         {1, 1, 1, 1, 1, 1, 1}, {1, 2, 3, 4, 5, 6, 7}, {1, 3, 3, 5, 5, 7, 7}, {1, 4, 5, 4, 5, 4, 5},
         {1, 5, 5, 5, 5, 5, 5}, {1, 6, 7, 4, 5, 6, 7}, {1, 7, 7, 5, 5, 7, 7},
     };
     for (unsigned k = 0; k < SETS * SETS; k++) {
         char body[100];
-        sprintf(body, "26 %s %s", side[k / SETS], side[k % SETS]);
+        sprintf(body, "26 %s %s", of_set[k / SETS], of_set[k % SETS]);
         expect(body, decided(body, ""), (uint64_t)wanted[k / SETS][k % SETS] << 8);
     }
 }
@@ -627,6 +670,259 @@ static void an_or(void)
     pairs_through_or();
     exposures_through_or();
     wide_exposures_through_or();
+}
+
+/* ---- deciding without calls that nest: what a walk from the last node to the first might take wrongly */
+
+struct decided_row {
+    const char *policy, *request;
+    unsigned set;
+};
+
+static void expect_sets(const struct decided_row *row, size_t count)
+{
+    for (size_t k = 0; k < count; k++)
+        expect(row[k].policy, decided(row[k].policy, row[k].request), (uint64_t)row[k].set << 8);
+}
+
+/* 31 joins, each the left side of the one before, and 32 leaves: when the walk comes to the joins it holds 32 values. The first leaf is the
+ * innermost, the last the side of the first join. Where ands and ors take turns each side leaves the other side as it is, so that all
+ * comes to the innermost leaf; one leaf taken for the next one, and an and has a deny beside it. */
+static void left_deep_rows(void)
+{
+    static const struct decided_row joins[] = {
+        {"31( 25 ) 32( 21 )", "", 1}, {"31( 25 ) 20 31( 21 )", "", 2}, {"31( 25 ) 31( 21 ) 20", "", 2},
+        {"31( 26 ) 32( 20 )", "", 2}, {"31( 26 ) 21 31( 20 )", "", 1}, {"31( 26 ) 31( 20 ) 21", "", 1},
+        {"15( 25 26 ) 25 21 15( 21 20 ) 21", "", 1}, {"15( 25 26 ) 25 20 15( 21 20 ) 21", "", 2},
+        {"15( 26 25 ) 26 21 15( 20 21 ) 20", "", 1}, {"15( 26 25 ) 26 20 15( 20 21 ) 20", "", 2},
+    };
+    static const struct decided_row targets[] = {
+        {"22 30( 13 ) 31(" ATOM ") 21", "00010001", 1}, {"22 30( 13 ) 31(" ATOM ") 21", "00010000", 4}, {"22 30( 13 ) 31(" ATOM ") 21", "", 5},
+        {"22 30( 14 ) 31(" ATOM ") 20", "00010001", 2}, {"22 30( 14 ) 31(" ATOM ") 20", "00010000", 4}, {"22 30( 14 ) 31(" ATOM ") 20", "", 6},
+    };
+    expect_sets(joins, sizeof joins / sizeof *joins);
+    expect_sets(targets, sizeof targets / sizeof *targets);
+}
+
+/* The same with a targeted node among the joins, of which the innermost leaf, (2,1), is the target: the atoms beside it, (1,0) in an or and
+ * (1,1) in an and, are 0 and 1. */
+static void left_deep_targeted_rows(void)
+{
+    static const char *const over_deny = "7( 25 26 ) 22 8( 13 14 )" OTHER "8( 10 0001 0000 10 0001 0001 ) 20 7( 20 21 )";
+    static const char *const over_allow = "22 15( 13 14 )" OTHER "15( 10 0001 0000 10 0001 0001 ) 21";
+    const struct decided_row row[] = {
+        {over_deny, "00010001 00020001", 2}, {over_deny, "00010001 00020000", 4}, {over_deny, "00010001", 6},
+        {over_allow, "00010001 00020001", 1}, {over_allow, "00010001 00020000", 4}, {over_allow, "00010001", 5},
+    };
+    expect_sets(row, sizeof row / sizeof *row);
+}
+
+/* The next of the chain on the right: few values wait. A not turns the leaf round, 31 of them as one does. */
+static void other_deep_rows(void)
+{
+    static const struct decided_row right[] = {
+        {"31( 25 21 ) 21", "", 1}, {"31( 25 21 ) 20", "", 2}, {"31( 26 20 ) 20", "", 2}, {"31( 26 20 ) 21", "", 1},
+        {"15( 25 21 26 20 ) 25 21 21", "", 1}, {"15( 25 21 26 20 ) 25 21 20", "", 2},
+        {"31( 22" ATOM ") 21", "00010001", 1}, {"31( 22" ATOM ") 21", "00010000", 4}, {"31( 22" ATOM ") 21", "", 5},
+        {"22 30( 13" ATOM ")" OTHER "20", "00010001 00020001", 2}, {"22 30( 13" ATOM ")" OTHER "20", "00010001 00020000", 4},
+        {"22 30( 13" ATOM ")" OTHER "20", "00010001", 6}, {"22 30( 14" ATOM ")" OTHER "20", "00010000 00020001", 2},
+    };
+    static const struct decided_row nots[] = {
+        {"31( 23 ) 21", "", 2}, {"30( 23 ) 21", "", 1}, {"31( 24 ) 21", "", 1}, {"31( 24 ) 20", "", 2}, {"22 30( 11 )" ATOM "21", "00010001", 1},
+        {"22 29( 11 )" ATOM "21", "00010001", 4}, {"22 30( 12 )" ATOM "21", "", 4}, {"29( 24 ) 22" ATOM "21", "", 3},
+    };
+    expect_sets(right, sizeof right / sizeof *right);
+    expect_sets(nots, sizeof nots / sizeof *nots);
+}
+
+/* A number of an atom may look like nodes. Of the values of (n, v): 1 where the request has the pair, 0 where it has another of that name. */
+static void numbers_like_nodes(void)
+{
+    static const struct decided_row one[] = {
+        {"22 10 2021 1011 21", "20211011", 1}, {"22 10 2021 1011 21", "20211010", 4}, {"22 10 2021 1011 21", "", 5},
+        {"22 11 10 1112 1314 20", "11120000", 2}, {"22 11 10 1112 1314 20", "11121314", 4}, {"22 11 10 1112 1314 20", "", 6},
+        {"22 10 2322 2324 20", "23222324", 2}, {"23 22 10 2323 2323 20", "23232323", 1}, {"24 22 10 2424 1224 21", "", 3},
+    };
+    static const struct decided_row two[] = {
+        {"22 13 10 2526 2222 10 1010 1010 21", "10101010 25262222", 1}, {"22 13 10 2526 2222 10 1010 1010 21", "10101010 25260000", 4},
+        {"22 13 10 2526 2222 10 1010 1010 21", "10101010", 5}, {"22 14 10 2023 2424 12 10 2120 2521 20", "20232424", 2},
+        {"22 14 10 2023 2424 12 10 2120 2521 20", "20230000", 4}, {"22 14 10 2023 2424 12 10 2120 2521 20", "", 6},
+        {"25 22 10 2020 2020 21 22 10 2121 2121 21", "20202020 21212121", 1}, {"25 22 10 2020 2020 21 22 10 2121 2121 21", "20202020", 5},
+        {"25 22 10 2020 2020 21 22 10 2121 2121 21", "20200000 21212121", 4}, {"22 30( 13 ) 31( 10 2021 1011 ) 20", "20211011", 2},
+        {"22 30( 14 ) 31( 10 1313 2525 ) 21", "13130000", 4},
+    };
+    expect_sets(one, sizeof one / sizeof *one);
+    expect_sets(two, sizeof two / sizeof *two);
+}
+
+/* A target at 1 leaves the body's set, at 0 undefined alone, and undefined adds undefined. Taken for each other, a deny for a target and an
+ * atom at 1 for a body give undefined alone in the place of deny. */
+static void targets_and_bodies(void)
+{
+    for (unsigned set = 1; set <= SETS; set++) {
+        char body[100];
+        sprintf(body, "22" OTHER "%s", of_set[set - 1]);
+        expect(body, decided(body, "00020001"), (uint64_t)set << 8);
+        expect(body, decided(body, "00020000"), (uint64_t)4 << 8);
+        expect(body, decided(body, ""), (uint64_t)(set | 4) << 8);
+    }
+}
+
+/* 128 leaves, allow under ands and deny under ors, but for one: 255 nodes. */
+static void odd_tree(struct file *f, uint8_t join, unsigned odd)
+{
+    unsigned leaf = 0;
+    tree(f, join, 128);
+    for (size_t at = f->length - 255; at < f->length; at++)
+        if (f->bytes[at] != join)
+            f->bytes[at] = (uint8_t)(0x20 + ((join == 0x25) ^ (leaf++ == odd)));
+    put_frame(f);
+}
+
+/* One deny makes ands deny and one allow makes ors allow, wherever it stands; the last tree has none. A not over it is a 256th node. */
+static void most_nodes_decided(uint8_t join)
+{
+    static struct file p;
+    static const uint8_t no_facts[] = {1, 0, 0};
+    for (unsigned odd = 0; odd <= 128; odd++) {
+        p.length = 3;
+        odd_tree(&p, join, odd);
+        uint64_t set = (join == 0x25) ^ (odd < 128) ? 1 : 2;
+        expect("255 nodes are decided", decide(p.bytes, p.length, no_facts, sizeof no_facts), set << 8);
+    }
+    p.length = 4;
+    p.bytes[3] = 0x23;
+    odd_tree(&p, join, 128);
+    expect("256 nodes are not", decide(p.bytes, p.length, no_facts, sizeof no_facts), refused(7, 258));
+}
+
+/* A chain of 31 links, each on the left of the one before: ands and ors, and among them at most one targeted node, below which they are of
+ * targets. It has 32 leaves: the innermost, which is number 0, and then the links' other sides from the innermost to the outermost. */
+enum { LINKS = 31 };
+
+/* The values in this order: of two, an and comes to the smaller and an or to the larger. */
+enum value { ZERO_VALUE, UNDEFINED_VALUE, ONE_VALUE };
+
+struct chain {
+    unsigned targeted; /* the link that is the targeted node, the outermost being 0; none if it is LINKS */
+    uint32_t ors;      /* bit k: link k is an or */
+    enum value value[LINKS + 1];
+};
+
+static int is_target(const struct chain *c, unsigned leaf) { return LINKS - leaf > c->targeted; }
+
+/* A target is the atom (its number, 1), whose value the request gives it; a policy is deny, undefined (a target of 0), allow. */
+static void put_leaf(struct file *f, const struct chain *c, unsigned leaf)
+{
+    static const char *const of_value[] = {"20", "22 12 10 ffff ffff 21", "21"};
+    if (is_target(c, leaf)) {
+        put_hex(f, "10 00");
+        put_byte(f, leaf);
+        put_hex(f, "0001");
+    } else {
+        put_hex(f, of_value[c->value[leaf]]);
+    }
+}
+
+static void put_chain(struct file *f, const struct chain *c)
+{
+    for (unsigned k = 0; k < LINKS; k++)
+        put_byte(f, k == c->targeted ? 0x22 : (k < c->targeted ? 0x25 : 0x13) + (c->ors >> k & 1));
+    for (unsigned leaf = 0; leaf <= LINKS; leaf++)
+        put_leaf(f, c, leaf);
+}
+
+/* For a target at 1 the pair itself, at 0 another of its name, undefined none of its name. */
+static void put_facts(struct file *f, const struct chain *c)
+{
+    for (unsigned leaf = 0; leaf <= LINKS; leaf++)
+        if (is_target(c, leaf) && c->value[leaf] != UNDEFINED_VALUE) {
+            put_byte(f, 0);
+            put_byte(f, leaf);
+            put_byte(f, 0);
+            put_byte(f, c->value[leaf] == ONE_VALUE);
+        }
+}
+
+/* What comes of a value at a link. A targeted node with an undefined target comes to two: its body, and undefined; `guarded` asks for the
+ * first. Members of a set act one by one. */
+static enum value linked(const struct chain *c, unsigned link, enum value inner, int guarded)
+{
+    enum value side = c->value[LINKS - link];
+    if (link == c->targeted)
+        return inner == ONE_VALUE || (inner == UNDEFINED_VALUE && guarded) ? side : UNDEFINED_VALUE;
+    int is_or = c->ors >> link & 1;
+    return (side > inner) == is_or ? side : inner;
+}
+
+/* The chain is a fold: from the innermost leaf outwards, link by link. */
+static unsigned folded(const struct chain *c, int guarded)
+{
+    static const unsigned code[] = {2, 4, 1};
+    enum value value = c->value[0];
+    for (unsigned link = LINKS; link-- > 0;)
+        value = linked(c, link, value, guarded);
+    return code[value];
+}
+
+static uint32_t pattern(uint32_t *state)
+{
+    *state = *state * 1664525 + 1013904223;
+    return *state >> 8;
+}
+
+/* Most sides leave the value as it is, in every second chain all but one in 32, so that what is deep inside shows. An undefined policy takes two
+ * nodes more below it, for which there is no depth at the last links. */
+static void make_chain(struct chain *c, unsigned targeted, uint32_t seed)
+{
+    uint32_t state = seed * 32 + targeted, one_in = seed % 2 == 0 ? 32 : 4;
+    c->targeted = targeted;
+    c->ors = pattern(&state) << 16 ^ pattern(&state);
+    for (unsigned leaf = 0; leaf <= LINKS; leaf++) {
+        int keeps = leaf > 0 && pattern(&state) % one_in != 0, is_or = leaf > 0 && (c->ors >> (LINKS - leaf) & 1);
+        c->value[leaf] = keeps ? (is_or ? ZERO_VALUE : ONE_VALUE) : (enum value)(pattern(&state) % 3);
+        if (leaf < 3 && !is_target(c, leaf) && c->value[leaf] == UNDEFINED_VALUE)
+            c->value[leaf] = ONE_VALUE;
+    }
+}
+
+/* The chain, and what it comes to; a not over it is one too deep, at the innermost leaf. */
+static void expect_chain(const struct chain *c)
+{
+    static struct file p, q;
+    p.length = q.length = 3;
+    put_chain(&p, c);
+    put_frame(&p);
+    put_facts(&q, c);
+    put_frame(&q);
+    expect("a chain that fills the stack", decide(p.bytes, p.length, q.bytes, q.length), (uint64_t)(folded(c, 1) | folded(c, 0)) << 8);
+    p.length = 3;
+    put_byte(&p, 0x23);
+    put_chain(&p, c);
+    put_frame(&p);
+    expect("a chain that is one deeper", decide(p.bytes, p.length, q.bytes, q.length), refused(6, 35));
+}
+
+static void chains(void)
+{
+    enum { SEEDS = 40 };
+    for (unsigned k = 0; k < SEEDS * (LINKS + 1); k++) {
+        struct chain c;
+        make_chain(&c, k % (LINKS + 1), 1 + k / (LINKS + 1));
+        expect_chain(&c);
+    }
+}
+
+static void without_nested_calls(void)
+{
+    left_deep_rows();
+    left_deep_targeted_rows();
+    other_deep_rows();
+    numbers_like_nodes();
+    targets_and_bodies();
+    most_nodes_decided(0x25);
+    most_nodes_decided(0x26);
+    chains();
 }
 
 /* ---- the written form */
@@ -977,8 +1273,8 @@ static void nulls(void)
 {
     static struct file p;
     file(&p, F);
-    expect("NULL policy", sinkheron_decide(NULL, 0, NULL, 0), refused(1, 0));
-    expect("NULL request", sinkheron_decide(p.bytes, p.length, NULL, 0), refused(21, 0));
+    expect("NULL policy", decide(NULL, 0, NULL, 0), refused(1, 0));
+    expect("NULL request", decide(p.bytes, p.length, NULL, 0), refused(21, 0));
     expect("NULL space", sinkheron_search(p.bytes, p.length, NULL, 0), refused(13, 0));
     expect("NULL pairs, and none to list", sinkheron_list_pairs(p.bytes, p.length, NULL, 0), 0);
     expect("NULL certify", sinkheron_certify(NULL, 0), refused(1, 0));
@@ -1004,6 +1300,7 @@ int main(void)
     tags_behind_255_nodes(0x25);
     tags_behind_255_nodes(0x26);
     an_or();
+    without_nested_calls();
     lines();
     texts_with_another_word();
     texts_without_a_number();
