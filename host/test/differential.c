@@ -104,6 +104,94 @@ static void broad_and_deep(struct bytes *b)
     put(b, 0x20 + below(2));
 }
 
+/* ---- one long branch with short sides: a side on its right waits on the walk's stack until the branch is done, and 31 of them fill it */
+
+/* How often a branch goes on at the right and how often through a node of one part, so many times in 8; and how often a side is none that leaves
+ * the branch as it is, so many times in 32: what is deep inside shows only where that is seldom. */
+struct bend {
+    unsigned right, single, loud;
+};
+
+/* Of few pairs, since search judges every subset of them. */
+static void branch_atom(struct bytes *b, unsigned name, unsigned value)
+{
+    const uint8_t atom[] = {0x10, 0, (uint8_t)name, 0, (uint8_t)value};
+    for (size_t k = 0; k < sizeof atom; k++)
+        put(b, atom[k]);
+}
+
+/* In ands (0,0) and in ors (1,1): some requests have the one, and of the other's name another value. */
+static void target_side(struct bytes *b, unsigned join, const struct bend *bend)
+{
+    if (below(32) >= bend->loud) {
+        branch_atom(b, join == 0x14, join == 0x14);
+        return;
+    }
+    if (below(2) == 0)
+        put(b, 0x11 + below(2));
+    branch_atom(b, below(2), below(2));
+}
+
+/* In ands allow and in ors deny. */
+static void policy_side(struct bytes *b, unsigned join, const struct bend *bend)
+{
+    int is_loud = below(32) < bend->loud;
+    if (is_loud && below(2) == 0) {
+        put(b, 0x22);
+        branch_atom(b, below(2), below(2));
+    }
+    put(b, is_loud || join == 0x22 ? 0x20 + below(2) : join == 0x26 ? 0x20 : 0x21);
+}
+
+static void target_branch(struct bytes *b, unsigned nodes, const struct bend *bend)
+{
+    if (nodes == 0) {
+        branch_atom(b, below(2), below(2));
+        return;
+    }
+    int is_single = below(8) < bend->single, is_right = below(8) < bend->right;
+    unsigned tag = (is_single ? 0x11 : 0x13) + below(2);
+    put(b, tag);
+    if (!is_single && is_right)
+        target_side(b, tag, bend);
+    target_branch(b, nodes - 1, bend);
+    if (!is_single && !is_right)
+        target_side(b, tag, bend);
+}
+
+/* At a targeted node the branch goes on in its target, or in the policy that it guards. */
+static void policy_branch(struct bytes *b, unsigned nodes, const struct bend *bend)
+{
+    if (nodes == 0) {
+        put(b, 0x20 + below(2));
+        return;
+    }
+    int is_single = below(8) < bend->single, is_right = below(8) < bend->right, is_targeted = !is_single && below(12) == 0;
+    unsigned tag = is_targeted ? 0x22 : is_single ? 0x23 + below(2) : join_tag();
+    put(b, tag);
+    if (is_targeted && is_right)
+        target_side(b, tag, bend);
+    if (!is_targeted && !is_single && is_right)
+        policy_side(b, tag, bend);
+    if (is_targeted && !is_right)
+        target_branch(b, nodes - 1, bend);
+    else
+        policy_branch(b, nodes - 1, bend);
+    if (!is_single && !is_right)
+        policy_side(b, tag, bend);
+}
+
+/* About the limit of depth. Half of them go to the left only and through joins, some of these not as deep, so that each height is met. */
+static void branch(struct bytes *b)
+{
+    unsigned loud = below(2) == 0 ? below(2) : below(9);
+    struct bend left = {0, 0, loud}, other = {below(8), below(4), loud};
+    if (below(2) == 0)
+        policy_branch(b, below(4) == 0 ? below(33) : 30 + below(3), &left);
+    else
+        policy_branch(b, 28 + below(5), &other);
+}
+
 static void close_frame(struct bytes *b)
 {
     b->at[0] = 1;
@@ -120,6 +208,8 @@ static void make_policy(struct bytes *b)
         broad_and_more(b);
     else if (below(400) == 0)
         broad_and_deep(b);
+    else if (below(10) == 0)
+        branch(b);
     else
         policy(b, 1 + below(below(10) == 0 ? 9 : 5));
     close_frame(b);
@@ -373,6 +463,7 @@ enum { NUMBERS = 55 };
 static unsigned long numbers[NUMBERS], read_numbers[NUMBERS], written_numbers[NUMBERS], sets[8], rules[8], verdicts[2], searched[17];
 static unsigned long misplaced[2]; /* of refusal 15: policies where a target is due, targets where a policy is */
 static unsigned long ors[2]; /* policies that were decided with a target or in them, with a policy or */
+static unsigned long heights[33]; /* of the stack in a walk over a policy that was decided */
 
 /* Whether a policy that was read has a node of that tag. */
 static int has_node(const struct bytes *p, unsigned tag)
@@ -383,9 +474,32 @@ static int has_node(const struct bytes *p, unsigned tag)
     return at < p->length;
 }
 
+/* What the node leaves on the stack less what it takes from it. */
+static int growth(unsigned tag)
+{
+    switch (tag) {
+    case 0x10: case 0x20: case 0x21: return 1;
+    case 0x11: case 0x12: case 0x23: case 0x24: return 0;
+    default: return -1;
+    }
+}
+
+/* The most values that wait at once while a policy that was read is walked from its last node to its first. Once a node is taken, those that
+ * wait are the terms that were due in reading when it stood next: so they are counted from the first node on. */
+static int height(const struct bytes *p)
+{
+    int due = 1, most = 1;
+    for (size_t at = 3; at < p->length; at += p->at[at] == 0x10 ? 5 : 1) {
+        most = due > most ? due : most;
+        due -= growth(p->at[at]);
+    }
+    return most;
+}
+
 static void met_decided(const struct bytes *p, unsigned set)
 {
     sets[set]++;
+    heights[height(p)]++;
     ors[0] += (unsigned)has_node(p, 0x14);
     ors[1] += (unsigned)has_node(p, 0x26);
 }
@@ -436,6 +550,18 @@ static uint8_t *lend(const struct guarded *memory, size_t length, int at_end)
     return guarded_copy(memory, fill, length, at_end);
 }
 
+/* The two engines against the one model. */
+static int decide_trial(const struct bytes *p, const uint8_t *policy, const struct bytes *q, const uint8_t *request, struct answer *decided)
+{
+    *decided = model_decide(policy, p->length, request, q->length);
+    uint64_t wanted = packed(*decided, (uint64_t)decided->set << 8);
+    operation = "decide";
+    if (differs(sinkheron_decide(policy, p->length, request, q->length), wanted, NULL, NULL, 0))
+        return 1;
+    operation = "decide_flat";
+    return differs(sinkheron_decide_flat(policy, p->length, request, q->length), wanted, NULL, NULL, 0);
+}
+
 /* The same call of library and model on equal memory. */
 static int trial(const struct bytes *p, const struct bytes *q, const struct guarded *memory, size_t space_len, int at_end)
 {
@@ -446,9 +572,7 @@ static int trial(const struct bytes *p, const struct bytes *q, const struct guar
     for (size_t k = 0; k < space_len / 4; k++)
         fill32[k] = next();
 
-    operation = "decide";
-    decided = model_decide(policy, p->length, request, q->length);
-    if (differs(sinkheron_decide(policy, p->length, request, q->length), packed(decided, (uint64_t)decided.set << 8), NULL, NULL, 0))
+    if (decide_trial(p, policy, q, request, &decided))
         return 1;
 
     operation = "certify";
@@ -531,6 +655,8 @@ static const uint8_t of_lines[] = {0, 1, 2, 3, 4, 5, 15, 6, 7, 8, 13};
 static const uint8_t of_sets[] = {1, 2, 3, 4, 5, 6, 7};
 static const uint8_t of_rules[] = {0, 1, 2, 3, 4, 5, 6, 7};
 static const uint8_t of_two[] = {0, 1};
+static const uint8_t of_heights[] = {1,  2,  3,  4,  5,  6,  7,  8,  9,  10, 11, 12, 13, 14, 15, 16,
+                                     17, 18, 19, 20, 21, 22, 23, 24, 25, 26, 27, 28, 29, 30, 31, 32};
 
 static int all_met(const unsigned long *counts, const uint8_t *wanted, size_t length)
 {
@@ -545,7 +671,7 @@ static int everything_met(void)
     return all_met(numbers, of_files, sizeof of_files) && all_met(read_numbers, of_texts, sizeof of_texts) &&
            all_met(written_numbers, of_lines, sizeof of_lines) && all_met(sets, of_sets, sizeof of_sets) &&
            all_met(rules, of_rules, sizeof of_rules) && all_met(verdicts, of_two, sizeof of_two) &&
-           all_met(misplaced, of_two, sizeof of_two) && all_met(ors, of_two, sizeof of_two);
+           all_met(misplaced, of_two, sizeof of_two) && all_met(ors, of_two, sizeof of_two) && all_met(heights, of_heights, sizeof of_heights);
 }
 
 struct inputs {
@@ -579,6 +705,7 @@ static void print_met(void)
     print_counts("numbers met in writing texts", written_numbers, NUMBERS);
     printf("misplaced: policies in %lu, targets in %lu\n", misplaced[0], misplaced[1]);
     printf("ors decided: of targets in %lu, of policies in %lu\n", ors[0], ors[1]);
+    print_counts("heights met", heights, 33);
     print_counts("sets met", sets, 8);
     print_counts("certificates met", rules, 8);
     print_counts("verdicts met", verdicts, 2);
@@ -602,10 +729,10 @@ int main(int count, char **argument)
             return 1;
         }
     }
-    printf("%lu inputs, seven operations each, no difference\n", trials);
+    printf("%lu inputs, eight operations each, no difference\n", trials);
     print_met();
     if (trials >= LONG_RUN && !everything_met()) {
-        puts("a refusal, set, certificate, verdict or node of the documents was not met\n0 passed, 1 failed");
+        puts("a refusal, set, certificate, verdict, node or height of the documents was not met\n0 passed, 1 failed");
         return 1;
     }
     puts("1 passed, 0 failed");
