@@ -1,7 +1,8 @@
 /* A release station's host.
  *
- *   station POLICY REQUEST   release or hold the batch: exit status 0 only for release, 1 for hold
- *   station POLICY           check a policy before use: exit status 0 for resistant, 1 for exposed or refused
+ *   station POLICY REQUEST          release or hold the batch: exit status 0 only for release, 1 for hold
+ *   station --flat POLICY REQUEST   the same without calls that nest, for a controller that allows one call frame
+ *   station POLICY                  check a policy before use: exit status 0 for resistant, 1 for exposed or refused
  *
  * Status 2: wrong arguments. Status 3: a file that cannot be read or is larger than any that the library accepts. */
 #include "program.h"
@@ -27,9 +28,12 @@ static const char *hold_reason(unsigned set)
     }
 }
 
-static int decide(const struct block *policy, const struct block *request)
+/* sinkheron_decide or sinkheron_decide_flat: they give the same answers. */
+typedef uint64_t engine(const uint8_t *policy, size_t policy_len, const uint8_t *request, size_t request_len);
+
+static int decide(engine *by, const struct block *policy, const struct block *request)
 {
-    uint64_t word = sinkheron_decide(policy->bytes, policy->length, request->bytes, request->length);
+    uint64_t word = by(policy->bytes, policy->length, request->bytes, request->length);
     if (sinkheron_releases(word)) {
         puts("release: allow");
         return 0;
@@ -92,15 +96,17 @@ static int check(const struct block *policy)
 int main(int count, char **argument)
 {
     static struct block policy, request;
-    if (count != 2 && count != 3) {
-        fprintf(stderr, "usage: station POLICY [REQUEST]\n");
+    int flat = count > 1 && strcmp(argument[1], "--flat") == 0, files = count - 1 - flat;
+    char **file = argument + 1 + flat;
+    if (files > 2 || files < 1 + flat) {
+        fprintf(stderr, "usage: station POLICY [REQUEST]\n       station --flat POLICY REQUEST\n");
         return STATUS_USAGE;
     }
-    if (!load_file(argument[1], &policy))
+    if (!load_file(file[0], &policy))
         return STATUS_FILE;
-    if (count == 2)
+    if (files == 1)
         return check(&policy);
-    if (!load_file(argument[2], &request))
+    if (!load_file(file[1], &request))
         return STATUS_FILE;
-    return decide(&policy, &request);
+    return decide(flat ? sinkheron_decide_flat : sinkheron_decide, &policy, &request);
 }
