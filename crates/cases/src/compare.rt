@@ -19,9 +19,11 @@ pub const CERTIFY: usize = 4;
 
 pub const SEARCH: usize = 5;
 
-pub const READ_TEXT: usize = 6;
+pub const DECIDE_FLAT: usize = 6;
 
-pub const WRITE_TEXT: usize = 7;
+pub const READ_TEXT: usize = 7;
+
+pub const WRITE_TEXT: usize = 8;
 
 // How much memory is lent to an operation, and the byte of which it is full.
 pub struct Rooms {
@@ -94,6 +96,12 @@ fn run_on(operation: usize, policy: &[u8], request: &[u8], rooms: Rooms) -> Both
         CERTIFY => compared(
             library::certify(policy),
             model::certify(policy),
+            [0u8; 2048],
+            true,
+        ),
+        DECIDE_FLAT => compared(
+            library::decide_flat(policy, request),
+            model::decide(policy, request),
             [0u8; 2048],
             true,
         ),

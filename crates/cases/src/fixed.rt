@@ -59,7 +59,7 @@ fn answer_of(operation: usize, line: &[u8]) -> Answer {
     }
 }
 
-// The answer of the library must be that of the line, and all five operations must agree.
+// The answer of the library must be that of the line, and all six operations must agree.
 fn expect(tally: &mut Tally, operation: usize, case: Case, line: &[u8]) {
     let both = compare::run(operation, case);
     let first = tally::first_to_disagree(tally, case);

@@ -8,11 +8,19 @@ use sinkheron::Listing;
 use sinkheron::Output;
 use sinkheron::Searched;
 
-pub fn decide(policy: &[u8], request: &[u8]) -> Answer {
-    match sinkheron::decide(policy, request) {
+fn decision_of(decision: Decision) -> Answer {
+    match decision {
         Decision::Refused { number, place } => answer::refused(wide(number), place),
         Decision::Decided(set) => answer::decided(wide(set.code)),
     }
+}
+
+pub fn decide(policy: &[u8], request: &[u8]) -> Answer {
+    decision_of(sinkheron::decide(policy, request))
+}
+
+pub fn decide_flat(policy: &[u8], request: &[u8]) -> Answer {
+    decision_of(sinkheron::decide_flat(policy, request))
 }
 
 pub fn list_pairs(policy: &[u8], pairs: &mut [u32], room: usize) -> Answer {

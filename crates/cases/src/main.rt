@@ -1,6 +1,6 @@
-// Runs the five operations on policies and requests against an evaluator that was written for this program alone, on document
-// 01's cases and on generated ones, and document 02's written form on its cases; counts those in which every number, place, value
-// and byte of lent memory agrees.
+// Runs the six operations on policies and requests, both engines of decide among them, against an evaluator that was written for
+// this program alone, on document 01's cases and on generated ones, and document 02's written form on its cases; counts those in
+// which every number, place, value and byte of lent memory agrees.
 mod answer;
 mod arrays;
 mod compare;

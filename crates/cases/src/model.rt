@@ -1,4 +1,4 @@
-// The five operations by the independent evaluator.
+// The operations by the independent evaluator; what both engines of decide answer is one of them.
 use crate::answer;
 use crate::answer::Answer;
 use crate::arrays::Bytes;

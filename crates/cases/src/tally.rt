@@ -76,7 +76,7 @@ fn meet(tally: &mut Tally, operation: usize, a: Answer) {
 // The first operation to disagree, or 0.
 pub fn first_to_disagree(tally: &mut Tally, case: Case) -> usize {
     let mut first = 0;
-    for operation in 1..6 {
+    for operation in 1..7 {
         let both = compare::run(operation, case);
         meet(tally, operation, both.model);
         if !both.agree && first == 0 {

@@ -9,7 +9,7 @@ first-to-disagree-spec =
     tie.close
     (tie.spec
     (λ _ _ _ _ _ _ _. Unit {0})
-    (λ _ _ _ _ _ _ operation. 6 - operation)
+    (λ _ _ _ _ _ _ operation. 7 - operation)
     (λ c. search needs)
     (λ c κs. search needs)
     (λ c κs. search needs)
