@@ -134,6 +134,7 @@ static void library_search(void)
 static void single_search(void) { sink += plain_search_single(policy.bytes, pairs, pair_count).m; }
 static void words_search(void) { sink += plain_search_words(policy.bytes, pairs, pair_count).m; }
 static void library_decide(void) { sink += sinkheron_decide(policy.bytes, policy.length, request.bytes, request.length); }
+static void library_flat(void) { sink += sinkheron_decide_flat(policy.bytes, policy.length, request.bytes, request.length); }
 static void c_decide(void) { sink += careful_decide(policy.bytes, policy.length, request.bytes, request.length); }
 static void library_certify(void) { sink += sinkheron_certify(policy.bytes, policy.length); }
 static void library_list(void)
@@ -194,12 +195,12 @@ static void time_all(void (*const *program)(void), int programs)
         }
 }
 
-/* How many times as long as program p the first one takes: the median over the turns. */
-static double times(int p)
+/* How many times as long as program b program a takes: the median over the turns. */
+static double times(int a, int b)
 {
     double ratio[REPETITIONS];
     for (int k = 0; k < REPETITIONS; k++)
-        ratio[k] = took[0][k] / took[p][k];
+        ratio[k] = took[a][k] / took[b][k];
     return median(ratio);
 }
 
@@ -225,7 +226,9 @@ static void hold_searches(void)
 
 static void hold_decide(const struct file *p, const struct file *q)
 {
-    hold(sinkheron_decide(p->bytes, p->length, q->bytes, q->length) == careful_decide(p->bytes, p->length, q->bytes, q->length), "the decisions");
+    uint64_t word = careful_decide(p->bytes, p->length, q->bytes, q->length);
+    hold(sinkheron_decide(p->bytes, p->length, q->bytes, q->length) == word, "the decisions");
+    hold(sinkheron_decide_flat(p->bytes, p->length, q->bytes, q->length) == word, "the decisions without calls that nest");
 }
 
 /* Cut at every length, and with every byte changed in a few ways, the length stated anew or not. */
@@ -275,15 +278,17 @@ static void search_row(unsigned leaves, unsigned of_names, void (*leaf)(struct f
     build(leaves, of_names, leaf);
     hold_searches();
     time_all(programs, 4);
-    printf("%5u %5u  %-14s %10.2f %12.3f %10.2f %10.1f\n", nodes(), pair_count, kind, median(took[0]), times(1), times(2), times(3));
+    printf("%5u %5u  %-14s %10.2f %12.3f %10.2f %10.1f\n", nodes(), pair_count, kind, median(took[0]), times(0, 1), times(0, 2), times(0, 3));
 }
 
 static void decide_row(const char *kind)
 {
-    static void (*const programs[])(void) = {library_decide, c_decide};
+    enum { NESTED, FLAT, CAREFUL, PROGRAMS };
+    static void (*const programs[])(void) = {library_decide, library_flat, c_decide};
     hold_decisions();
-    time_all(programs, 2);
-    printf("%5u %8u  %-14s %10.3f %10.3f %8.2f\n", nodes(), (unsigned)(request.length - 3) / 4, kind, median(took[0]), median(took[1]), times(1));
+    time_all(programs, PROGRAMS);
+    printf("%5u %8u  %-10s %8.3f %8.3f %8.3f %10.2f %10.2f %9.2f\n", nodes(), (unsigned)(request.length - 3) / 4, kind, median(took[NESTED]),
+           median(took[FLAT]), median(took[CAREFUL]), times(NESTED, CAREFUL), times(FLAT, CAREFUL), times(FLAT, NESTED));
 }
 
 static void list_row(unsigned of_names, const char *kind)
@@ -312,7 +317,8 @@ static void search_rows(void)
 static void decide_rows(void)
 {
     static const unsigned sizes[] = {1, 2, 4, 6, 12, 36};
-    printf("\ndecide                              library  careful C\nnodes  request  kind                   us         us    times\n");
+    printf("\ndecide                      decide     flat  careful   decide /     flat /    flat /\n"
+           "nodes  request  kind            us       us       us    careful    careful    decide\n");
     policy.length = 4;
     policy.bytes[3] = 0x21;
     frame(&policy);
