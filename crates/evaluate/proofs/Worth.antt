@@ -1,6 +1,6 @@
 -- What a term comes to, as a code, from what is below it: one law a node.
 use Prim.Native.Nat.{ℕ, _+_, _/_, _%_}
-use mathlib.Core.Path.{_≡_, refl, ap, ap₂, _∙_}
+use mathlib.Core.Path.{_≡_, refl, ap, _∙_}
 use mathlib.Core.List.{List}
 use Rattle.ptacl.specs.Value.{Value, notV, defaultV, andV, orV}
 use Rattle.ptacl.specs.Values.{single, each, each2, under, code, setOf}
@@ -8,7 +8,7 @@ use Rattle.ptacl.specs.Request.{Request}
 use Rattle.ptacl.specs.Term.{Sort, target, policy, Term, Node, anAtom, aDeny, anAllow, aTargeted, aNot, aDefault, anAnd, anOr, Shape, numbers, leaf, one, two, shape}
 use Rattle.ptacl.specs.Meaning.{Meaning, lift, lift2, atomAt, eval}
 use Rattle.ptacl.specs.Pairs.{packed}
-use Rattle.ptacl.proofs.Codes.{code-set, of-single, of-singles}
+use Rattle.ptacl.proofs.Codes.{code-set, code-each, code-each2, of-single, of-singles}
 use Rattle.files.specs.Encoding.{Bytes}
 use Rattle.files.specs.Refusal.{dec16}
 use Rattle.files.proofs.View.{of-pair}
@@ -18,14 +18,14 @@ use Rattle.evaluate.specs.Worth.{codeOf, worth, atomCode, Made}
 acts : (f : Value → Value) → ((v : Value) → code (each f (single v)) ≡ code (single (f v)))
     → (s : Sort) (x : Meaning s) → code (each f (setOf (codeOf s x))) ≡ codeOf s (lift f s x)
 unfolding lift
-acts f h target v = ap (λ z. code (each f z)) (code-set (single v)) ∙ h v
-acts f h policy x = ap (λ z. code (each f z)) (code-set x)
+acts f h target v = code-each f (single v) ∙ h v
+acts f h policy x = code-each f x
 
 acts2 : (f : Value → Value → Value) → ((v w : Value) → code (each2 f (single v) (single w)) ≡ code (single (f v w)))
     → (s : Sort) (x y : Meaning s) → code (each2 f (setOf (codeOf s x)) (setOf (codeOf s y))) ≡ codeOf s (lift2 f s x y)
 unfolding lift2
-acts2 f h target v w = ap₂ (λ y z. code (each2 f y z)) (code-set (single v)) (code-set (single w)) ∙ h v w
-acts2 f h policy x y = ap₂ (λ y z. code (each2 f y z)) (code-set x) (code-set y)
+acts2 f h target v w = code-each2 f (single v) (single w) ∙ h v w
+acts2 f h policy x y = code-each2 f x y
 
 -- an atom's value, as a code, by its pair as a number
 pub atom-code : (b : List ℕ) (i : ℕ) (q : Request) {x c : ℕ} {v : Value} → Bytes b → x ≡ packed (dec16 b i, dec16 b (i + 2))

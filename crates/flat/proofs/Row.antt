@@ -7,7 +7,7 @@ use mathlib.Core.List.{List, [], _∷_, _++_, append-nil, map}
 use native.Mathlib.Omega.{arith}
 use lib.Dec.{eqb}
 use lib.ListN.{length, drop, getD, length-map}
-use lib.Seq.{drop-drop}
+use lib.Seq.{drop-nil, drop-drop}
 use Rattle.ptacl.specs.Request.{Request}
 use Rattle.ptacl.specs.Term.{Sort, Term, Policy, nodes, anAtom, tagOf, shape}
 use Rattle.files.specs.Encoding.{enc, depth, framed, policyFile, IsPolicy}
@@ -18,10 +18,6 @@ use Rattle.flat.specs.Finished.{Subterm, sub, encAll, worthOf, Finished,
 use Rattle.flat.proofs.Root.{root, widthOf, behind-node, nodesAll, highest, starts, opens, root-nodes, root-depth, root-highest, same-row}
 
 -- ---- bytes
-
-drop-none : (n : ℕ) → _≡_ {A = List ℕ} (drop n []) []
-drop-none zero = refl
-drop-none (suc n) = refl
 
 -- a term begins with its root's byte
 pub first-byte : (b : List ℕ) (at : ℕ) {s : Sort} (t : Term s) (xs : List ℕ) → drop at b ≡ enc t ++ xs → getD b at 0 ≡ tagOf (root t .node)
@@ -36,7 +32,7 @@ opened (sub t ∷ f) = root t .parts ++ f
 
 pub behind-first : (b : List ℕ) (at : ℕ) (f : List Subterm) → drop at b ≡ encAll f → drop (behind b at) b ≡ encAll (opened f)
 unfolding encAll
-behind-first b at [] e = let n : ℕ = cond (eqb (getD b at 0) (tagOf anAtom)) 5 1 in sym (drop-drop n at b) ∙ ap (drop n) e ∙ drop-none n
+behind-first b at [] e = let n : ℕ = cond (eqb (getD b at 0) (tagOf anAtom)) 5 1 in sym (drop-drop n at b) ∙ ap (drop n) e ∙ drop-nil n
 behind-first b at (sub t ∷ f) e =
     let n = widthOf (shapeName (shape (root t .node))) in
     ap (λ m. drop m b) (behind-node (root t .node) b at (first-byte b at t (encAll f) e)) ∙ sym (drop-drop n at b) ∙ ap (drop n) e ∙ opens t f

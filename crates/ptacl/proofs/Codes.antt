@@ -1,6 +1,6 @@
 -- The code of a set and the set of a code; a rule over codes, tested at all of the eight, holds of every number.
 use Prim.Native.Nat.{ℕ, _/_, _%_, _<_}
-use mathlib.Core.Path.{_≡_, refl, ap, _∙_}
+use mathlib.Core.Path.{_≡_, refl, ap, ap₂, _∙_}
 use mathlib.Core.Bool.{Bool, true}
 use native.Mathlib.Omega.{arith}
 use lib.Dec.{eqb, ltb}
@@ -17,6 +17,13 @@ code-set s = λ i. record {
   has0 = by sets (λ s. setOf (code s) .has0) (λ s. s .has0) refl s i;
   hasU = by sets (λ s. setOf (code s) .hasU) (λ s. s .hasU) refl s i;
 }
+
+-- an operation on the sets of codes is that on the sets
+pub code-each : (f : Value → Value) (s : Values) → code (each f (setOf (code s))) ≡ code (each f s)
+code-each f s = ap (λ z. code (each f z)) (code-set s)
+
+pub code-each2 : (f : Value → Value → Value) (s r : Values) → code (each2 f (setOf (code s)) (setOf (code r))) ≡ code (each2 f s r)
+code-each2 f s r = ap₂ (λ y z. code (each2 f y z)) (code-set s) (code-set r)
 
 -- empty is code 0, {1} is code 1
 pub empty-code : (s : Values) → isEmpty s ≡ eqb (code s) 0

@@ -10,7 +10,7 @@ use Rattle.ptacl.specs.Values.{single, each, each2, under, code, setOf}
 use Rattle.ptacl.specs.Request.{Request}
 use Rattle.ptacl.specs.Term.{Sort, target, policy, Term, Node, anAtom, aDeny, anAllow, aTargeted, aNot, aDefault, anAnd, anOr, tagOf, two, shape}
 use Rattle.ptacl.specs.Meaning.{Meaning, lift, lift2, atomAt, eval}
-use Rattle.ptacl.proofs.Codes.{code-set}
+use Rattle.ptacl.proofs.Codes.{code-set, code-each, code-each2}
 use Rattle.files.specs.Encoding.{enc}
 use Rattle.files.specs.Refusal.{dec16}
 use Rattle.files.specs.Places.{At, Has}
@@ -29,12 +29,12 @@ act2 f policy c d = code (each2 f (setOf c) (setOf d))
 pub act-told : (f : Value → Value) (s : Sort) (x : Meaning s) → act f s (told s x) ≡ told s (lift f s x)
 unfolding lift
 act-told f target x = refl
-act-told f policy x = ap (λ z. code (each f z)) (code-set x)
+act-told f policy x = code-each f x
 
 pub act2-told : (f : Value → Value → Value) (s : Sort) (x y : Meaning s) → act2 f s (told s x) (told s y) ≡ told s (lift2 f s x y)
 unfolding lift2
 act2-told f target x y = refl
-act2-told f policy x y = ap₂ (λ z w. code (each2 f z w)) (code-set x) (code-set y)
+act2-told f policy x y = code-each2 f x y
 
 -- an operation on the answer for a term
 acted : (f : Value → Value) {s : Sort} {b : List ℕ} {i m : ℕ} {q : Request} {v w : Told s}
