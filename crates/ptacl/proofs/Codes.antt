@@ -1,9 +1,11 @@
 -- The code of a set and the set of a code; a rule over codes, tested at all of the eight, holds of every number.
-use Prim.Native.Nat.{ℕ, ◌/◌, ◌%◌, ◌<◌}
+use Prim.Native.Nat.{ℕ, ◌+◌, ◌*◌, ◌/◌, ◌%◌, ◌<◌}
 use mathlib.Core.Path.{◌≡◌, refl, ap, ap₂, ◌∙◌}
 use mathlib.Core.Bool.{Bool, true}
+use mathlib.Core.List.{List}
 use native.Mathlib.Omega.{arith}
 use lib.Dec.{eqb, ltb}
+use lib.ListN.{get_or}
 use borrow.Author.Tests.{eqb-true, ltb-true}
 use Rattle.ptacl.specs.Value.{Value, v1}
 use Rattle.ptacl.specs.Values.{Values, is_empty, only, single, each, each2, code, set_of}
@@ -75,3 +77,8 @@ pub of_codes : (t : ℕ → ℕ → ℕ) (f : Values → Values → Values) → 
 of_codes t f h c d =
     of_code (t (c % 8)) (f (set_of (c % 8))) (below_at (λ k. right (t k) (f (set_of k))) 8 h (c % 8) (omega arith)) d
     ∙ ap (λ s. code (f s (set_of d))) (low_bits c)
+
+-- so a table of 64 numbers is right at all pairs
+pub of_table : (l : List ℕ) (f : Values → Values → Values) → all_below (λ i. right (λ j. get_or l (i * 8 + j) 0) (f (set_of i))) 8 ≡ true
+    → (c d : ℕ) → get_or l (c % 8 * 8 + d % 8) 0 ≡ code (f (set_of c) (set_of d))
+of_table l f = of_codes (λ i j. get_or l (i * 8 + j) 0) f

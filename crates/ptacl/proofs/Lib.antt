@@ -15,5 +15,6 @@ pub mod First
 pub mod Sets
 pub mod Rules
 pub mod Spelled
+pub mod Never
 pub mod Cert
 pub mod Worked

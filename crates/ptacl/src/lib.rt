@@ -1,4 +1,6 @@
 // PTaCL: the three values of a target, and decision sets.
+#![tactic(auto)]
+
 ghost use Rattle.std.specs.Prelude.{◌≡◌};
 ghost use Rattle.ptacl.specs.Value.{not_v, default_v, and_v, or_v};
 ghost use Rattle.ptacl.specs.Values.{single, union, each, each2, code, set_of};

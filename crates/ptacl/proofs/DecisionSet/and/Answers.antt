@@ -1,14 +1,11 @@
 -- `DecisionSet::and` meets its contract: its table is right at all 64 pairs of codes.
-use borrow.Author.Rules.{rules}
-use Prim.Native.Nat.{ℕ, ◌+◌, ◌*◌}
+use Prim.Native.Nat.{ℕ}
 use mathlib.Core.Path.{refl}
 use mathlib.Core.List.{List, [], ◌∷◌}
-use lib.ListN.{get_or}
 use Rattle.ptacl.specs.Value.{and_v}
 use Rattle.ptacl.specs.Values.{each2}
-use Rattle.ptacl.proofs.Codes.{of_codes}
-use Rattle.ptacl.proofs.DecisionSet.and.Statement.{statement}
-use Rattle.ptacl.proofs.DecisionSet.and.Tie as tie
+use Rattle.ptacl.proofs.Codes.{of_table}
+use Rattle.ptacl.proofs.DecisionSet.and.Goals as goal
 
 -- as the source has it
 abbrev conjunction : List ℕ
@@ -22,16 +19,5 @@ conjunction =
     ∷ 0 ∷ 6 ∷ 2 ∷ 6 ∷ 6 ∷ 6 ∷ 6 ∷ 6
     ∷ 0 ∷ 7 ∷ 2 ∷ 7 ∷ 6 ∷ 7 ∷ 6 ∷ 7 ∷ []
 
-returns : tie.Need-returns
-returns c =
-    let a = c.before.before.args in of_codes (λ i j. get_or conjunction (i * 8 + j) 0) (each2 and_v) refl a.self.code a.other.code
-
-pub and_spec : {M : Type 1} → statement M
-and_spec =
-    tie.close
-    (tie.spec
-    (λ c. search rules)
-    (λ c. search rules)
-    (λ c. search rules)
-    (λ c. search rules)
-    returns)
+pub returns : goal.returns
+returns c = of_table conjunction (each2 and_v) refl c.args.self.code c.args.other.code

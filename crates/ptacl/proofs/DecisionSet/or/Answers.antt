@@ -7,8 +7,7 @@ use Rattle.ptacl.specs.Term.{policy}
 use Rattle.ptacl.specs.Meaning.{lift, lift2}
 use Rattle.ptacl.proofs.Codes.{code_set}
 use Rattle.ptacl.proofs.Sets.{or_is}
-use Rattle.ptacl.proofs.DecisionSet.or.Statement.{statement}
-use Rattle.ptacl.proofs.DecisionSet.or.Tie as tie
+use Rattle.ptacl.proofs.DecisionSet.or.Goals as goal
 
 -- the set of the code that a call answers
 its : {c : ℕ} (s : Values) → c ≡ code s → set_of c ≡ s
@@ -21,10 +20,5 @@ by_calls x y {l} {r} a b c d =
     let e = its (each2 and_v (set_of l) (set_of r)) c ∙ ap₂ (each2 and_v) (its (each not_v (set_of x)) a) (its (each not_v (set_of y)) b) in
     d ∙ ap (λ s. code (each not_v s)) e ∙ ap code (sym (or_is policy (set_of x) (set_of y)))
 
-returns : tie.Need-returns
-returns c =
-    let a = c.before.before.before.before.args in
-    by_calls a.self.code a.other.code c.before.before.before.not.ensures c.before.before.not2.ensures c.before.and.ensures c.not3.ensures
-
-pub or_spec : {M : Type 1} → statement M
-or_spec = tie.close (tie.spec (λ c κs. tt) (λ c κs. tt) (λ c κs. tt) (λ c κs. tt) returns)
+pub returns : goal.returns
+returns c = by_calls c.args.self.code c.args.other.code c.not.ensures c.not-2.ensures c.and.ensures c.not-3.ensures
