@@ -12,6 +12,7 @@ pub enum Frame {
 }
 
 // The first three refusals of a file, numbered from `first` on.
+#[tactic(auto, unfolding(crate::specs::Refusal::unframed))]
 pub fn unframe(file: &[u8], first: u8) -> Frame
     requires { first < 254 }
     ensures { result ≡ frame_of (unframed first file.now (accepted tt)) }

@@ -14,14 +14,14 @@ pub const BEGIN: usize = 3;
 
 pub const DEEPEST: usize = 32;
 
-#[derive(Drop)]
+#[derive(Clone, Copy)]
 pub enum Sort {
     Target,
     Policy,
 }
 
 // What is below a node: an atom's numbers, nothing, a term of its own sort, or two terms and the sort of the first.
-#[derive(Drop)]
+#[derive(Clone, Copy)]
 pub enum Shape {
     Numbers,
     Leaf,
@@ -57,6 +57,7 @@ pub enum PolicyRead {
     Refused { number: u8, place: usize },
 }
 
+#[tactic(auto, unfolding(crate::specs::ReadPolicy::byte_at))]
 fn target_byte(b: u8) -> Byte
     ensures { result ≡ byte_of (byte_at target b) }
 {
@@ -71,6 +72,7 @@ fn target_byte(b: u8) -> Byte
     }
 }
 
+#[tactic(auto, unfolding(crate::specs::ReadPolicy::byte_at))]
 fn policy_byte(b: u8) -> Byte
     ensures { result ≡ byte_of (byte_at policy b) }
 {
@@ -109,6 +111,7 @@ pub fn limit(left: usize, nodes: usize) -> u8
     0
 }
 
+#[tactic(auto, unfolding(crate::specs::ReadPolicy::head_at))]
 pub fn head_at(file: &[u8], sort: Sort, left: usize, at: usize, nodes: usize) -> Head
     ensures { result ≡ head_of (head_at 255 file.now (sort_of sort) left at nodes) }
 {
@@ -141,6 +144,7 @@ pub fn head_at(file: &[u8], sort: Sort, left: usize, at: usize, nodes: usize) ->
 }
 
 // An atom's four bytes at `at`, with `nodes` nodes up to there; or 4 at the end.
+#[tactic(auto, unfolding(crate::specs::ReadPolicy::pair_at))]
 pub fn read_numbers(file: &[u8], at: usize, nodes: usize) -> Scanned
     requires { at ≤ length file.now }
     ensures { result ≡ seen (pair_at file.now at nodes) }

@@ -37,6 +37,7 @@ fn read_pairs(file: &[u8], count: usize, number: u8) -> RequestRead
 }
 
 // The first refusal of a request file, numbered from `first` on.
+#[tactic(auto, using(crate::proofs::Framing::whole_file, crate::proofs::Framing::unframed_whole, crate::proofs::Framing::refused_frame), unfolding(crate::specs::ReadRequest::read_request_from))]
 pub fn read_request(file: &[u8], first: u8) -> RequestRead
     requires { first < 251 }
     ensures { result ≡ request_read (read_request_from first file.now) }
@@ -62,6 +63,7 @@ pub fn read_request(file: &[u8], first: u8) -> RequestRead
 }
 
 // How many pairs a request file holds.
+#[tactic(auto, using(crate::proofs::RequestBody::numbers_length))]
 pub fn count(file: &[u8]) -> usize
     requires { 3 ≤ length file.now }
     ensures { result ≡ length (numbers_of file.now) }
@@ -70,6 +72,7 @@ pub fn count(file: &[u8]) -> usize
 }
 
 // The pair with a number from 0 on.
+#[tactic(auto, using(crate::proofs::RequestBody::numbers_length, crate::proofs::RequestBody::number_at))]
 pub fn nth(file: &[u8], i: usize) -> u32
     requires { i < length (numbers_of file.now) }
     ensures { result ≡ get_or (numbers_of file.now) i 0 }

@@ -18,6 +18,7 @@ pub fn copy(from: &[u8], space: &mut [u8], to: usize) -> usize
 }
 
 // The four bytes of a pair at `at`.
+#[tactic(auto, using(crate::proofs::Memory::four_stores), unfolding(crate::specs::Encoding::pair_bytes))]
 pub fn put_pair(space: &mut [u8], at: usize, pair: u32)
     requires { at + 4 ≤ length space.old }
     ensures { space.new ≡ put at (pair_bytes (unpacked pair ∷ [])) space.old }
@@ -29,6 +30,7 @@ pub fn put_pair(space: &mut [u8], at: usize, pair: u32)
 }
 
 // The version byte and the body's length.
+#[tactic(auto, using(crate::proofs::Memory::three_stores))]
 pub fn put_frame(space: &mut [u8], body: usize)
     requires { (3 ≤ length space.old) × (body ≤ 65535) }
     ensures { space.new ≡ over (1 ∷ big body []) space.old }
@@ -39,6 +41,7 @@ pub fn put_frame(space: &mut [u8], body: usize)
 }
 
 // The file of a request at the front of `space`: how many bytes it has.
+#[tactic(auto, using(crate::proofs::WriteLoop::writing_start, crate::proofs::WriteLoop::writing_more, crate::proofs::WriteLoop::writing_end))]
 pub fn write_request(pairs: &[u32], space: &mut [u8]) -> usize
     requires { (length pairs.now ≤ 256) × (3 + 4 * length pairs.now ≤ length space.old) }
     ensures { (result ≡ 3 + 4 * length pairs.now)
