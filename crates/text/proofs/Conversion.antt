@@ -142,10 +142,6 @@ pub refusal_given : {write write' : Policy → List ℕ} {to n p : ℕ} {before 
     → Parses write to before mid x (Parsed.Refused n p) → Gives write' after x (Parsed.Refused n p)
 refusal_given not_parsed = not_given
 
-pub parsed_bytes : {write : Policy → List ℕ} {to n : ℕ} {before after : List ℕ} {x : Read Policy} → Parses write to before after x (Parsed.Accepted n)
-    → (to ≤ n) × (n ≤ 4593)
-parsed_bytes (parsed m l) = (omega arith, l)
-
 -- the frame before a body that was put behind it
 pub frame_given : {before mid after : List ℕ} {x : Read Policy} {n : ℕ} → Parses (spell bytes tt) 3 before mid x (Parsed.Accepted n)
     → after ≡ over (1 ∷ big (n - 3) []) mid → 4593 ≤ length before → Gives policy_file after x (Parsed.Accepted n)

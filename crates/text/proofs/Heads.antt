@@ -62,7 +62,8 @@ module _ {b : List ℕ} {s : Sort} {at stop t : ℕ} (r : RunAt b s at stop t) (
 
   pub word_strange : ((g : ShapeC) → byte_of (byte_at s t) ≡ ByteC.Tag g → ⊥) → Met.Stop 51 at ≡ met_of word_head
   unfolding head_at
-  word_strange u = rw (lt-ltb at (length b) r.inside, found) (no_tag _ at _ (byte_at s t) u)
+  word_strange u = rw (lt-ltb at (length b) r.inside, found)
+      (no_tag (limit_of 255 left k) at (λ n. opened n (past b (behind (shape n) (end_of e)) (at + length (run_at b at)))) (byte_at s t) u)
 
   module _ {g : ShapeC} (u : byte_of (byte_at s t) ≡ ByteC.Tag g) {l : ℕ} (d : l ≡ limit_of 255 left k) where
     named : Names (byte_at s t) g
@@ -82,13 +83,15 @@ module _ {b : List ℕ} {s : Sort} {at stop t : ℕ} (r : RunAt b s at stop t) (
       unfolding head_at
       its_head x p = rw (lt-ltb at (length b) r.inside, found, named.is, sym d ∙ z, past_it, p)
 
-      pub word_on : {next : ℕ} → step_of (past b (end_of (follows g e)) stop) ≡ Step.On next → Met.Node t g next ≡ met_of word_head
-      word_on {next} p =
-          ap (λ x. Met.Node x g next) (byte_found s t named.its named.is)
-          ∙ ap (λ x. Met.Node (tag_of named.its) x next) (sym named.so) ∙ sym (its_head _ (step_on _ p))
+      -- f is what is due behind the word
+      module _ {f : EndC} (v : f ≡ follows g e) where
+        pub word_on : {next : ℕ} → Step.On next ≡ step_of (past b (end_of f) stop) → Met.Node t g next ≡ met_of word_head
+        word_on {next} p =
+            ap (λ x. Met.Node x g next) (byte_found s t named.its named.is)
+            ∙ ap (λ x. Met.Node (tag_of named.its) x next) (sym named.so) ∙ sym (its_head _ (step_on _ (sym (rw v at p))))
 
-      pub word_off : {n p : ℕ} → step_of (past b (end_of (follows g e)) stop) ≡ Step.Off n p → Met.Stop n p ≡ met_of word_head
-      word_off p = sym (its_head _ (step_off _ p))
+        pub word_off : {n p : ℕ} → Step.Off n p ≡ step_of (past b (end_of f) stop) → Met.Stop n p ≡ met_of word_head
+        word_off p = sym (its_head _ (step_off _ (sym (rw v at p))))
 
 -- ---- in bytes
 

@@ -1,6 +1,6 @@
 -- What the code tells of a number that is due.
 use Prim.Native.Nat.{ℕ, ◌+◌, ◌-◌, ◌≤◌, ◌<◌}
-use mathlib.Core.Path.{◌≡◌, refl, ap, subst, ◌∙◌}
+use mathlib.Core.Path.{◌≡◌, refl, sym, ap, subst, ◌∙◌}
 use mathlib.Core.Bool.{Bool, true, false, cond}
 use mathlib.Core.List.{List}
 use native.Mathlib.Omega.{arith}
@@ -68,7 +68,7 @@ module _ (b : List ℕ) (e : End) (at : ℕ) {stop r : ℕ} (s : stop ≡ at + l
       go true p q = absurd (omega (arith, (number_told (run_at b at) p).few))
       go false p q = refl
 
-  pub number_is : r ≤ 65535 → (x : Read ℕ) → past b e stop ≡ x → number_of (numbered r x) ≡ number_of (number_at b e at)
+  number_is : r ≤ 65535 → (x : Read ℕ) → past b e stop ≡ x → number_of (numbered r x) ≡ number_of (number_at b e at)
   unfolding number_at
   number_is h x p = go (is_number (run_at b at)) its
     where
@@ -76,6 +76,12 @@ module _ (b : List ℕ) (e : End) (at : ℕ) {stop r : ℕ} (s : stop ≡ at + l
           → number_of (numbered r x) ≡ number_of (cond c (numbered (value 0 (run_at b at)) (past b e (at + length (run_at b at)))) (refused 52 at))
       go true q = rw (← s, p, q)
       go false q = absurd (omega arith)
+
+  pub number_on : {next : ℕ} → r ≤ 65535 → Step.On next ≡ step_of (past b e stop) → Number.Is r next ≡ number_of (number_at b e at)
+  number_on h p = number_is h _ (step_on _ (sym p))
+
+  pub number_off : {n p : ℕ} → r ≤ 65535 → Step.Off n p ≡ step_of (past b e stop) → Number.Fault n p ≡ number_of (number_at b e at)
+  number_off h p = number_is h _ (step_off _ (sym p))
 
 pub number_told_is : (x : Read (ℕ × ℕ)) {v next : ℕ} → number_of x ≡ Number.Is v next → x ≡ accepted (v, next)
 number_told_is (accepted y) {v} {next} e = let p : y.0 ≡ v = cc in let q : y.1 ≡ next = cc in λ i. accepted (p i, q i)

@@ -1,14 +1,13 @@
 -- The table of words: each node's row in it, by its tag; the tags of a sort one behind another.
 use Prim.Native.Nat.{ℕ, ◌+◌, ◌-◌, ◌≤◌, ◌<◌}
 use mathlib.Core.Path.{◌≡◌, refl, ap, ◌∙◌}
-use mathlib.Core.Bool.{Bool, true, false, cond, ◌&&◌}
+use mathlib.Core.Bool.{true, false, cond}
 use mathlib.Core.List.{List, [], ◌∷◌}
 use native.Mathlib.Omega.{arith}
 use lib.Dec.{ltb}
 use lib.ListN.{length, take, drop, length-take}
 use borrow.Author.Tests.{ltb-true}
 use Rattle.ptacl.specs.Term.{Sort, target, policy, Node, tag_of}
-use Rattle.ptacl.proofs.Bools.{and_left, and_right}
 use Rattle.ptacl.proofs.Finite.{at_node}
 use Rattle.files.specs.ReadPolicy.{Byte, tag, unknown, nodes_of, find, byte_at}
 use Rattle.files.specs.Cases.{first_tag, last_tag}
@@ -20,57 +19,37 @@ use Rattle.text.proofs.Runs.{same_true}
 
 -- ---- a row
 
-abbrev row_right : (s : Sort) → Node s → Bool
-row_right s n =
-    same (row_of (tag_of n)) (word n)
-    && (ltb 15 (tag_of n) && (ltb (begins (tag_of n)) 56
-    && (ltb (begins (tag_of n)) (closes (begins (tag_of n))) && ltb (closes (begins (tag_of n))) (begins (tag_of n) + 6))))
-
 -- the row of a node's tag holds its word
 pub row_word : {s : Sort} (n : Node s) → row_of (tag_of n) ≡ word n
-row_word n = same_true (row_of (tag_of n)) (word n) (and_left _ (at_node row_right refl n))
+row_word n = same_true (row_of (tag_of n)) (word n) (at_node (λ s n. same (row_of (tag_of n)) (word n)) refl n)
 
--- where it lies
-record Row (t : ℕ) : Type 0 where
-  low : 15 < t
-  high : begins t < 56
-  order : begins t < closes (begins t)
-  short : closes (begins t) < begins t + 6
+pub tag_low : {s : Sort} (n : Node s) → 16 ≤ tag_of n
+tag_low n = ltb-true 15 (tag_of n) (at_node (λ s n. ltb 15 (tag_of n)) refl n)
 
 module _ {t : ℕ} (g : IsTag t) where
-  row : Row t
-  row =
-      let n = g.its in
-      let a = and_right (same (row_of (tag_of n)) (word n)) (at_node row_right refl n) in
-      let b = and_right (ltb 15 (tag_of n)) a in
-      let c = and_right (ltb (begins (tag_of n)) 56) b in
-      rw g.is (record {
-        low = ltb-true 15 (tag_of n) (and_left _ a);
-        high = ltb-true (begins (tag_of n)) 56 (and_left _ b);
-        order = ltb-true (begins (tag_of n)) (closes (begins (tag_of n))) (and_left _ c);
-        short = ltb-true (closes (begins (tag_of n))) (begins (tag_of n) + 6) (and_right (ltb (begins (tag_of n)) (closes (begins (tag_of n)))) c);
-      })
+  -- where it lies
+  high : begins t < 56
+  high = rw g.is (ltb-true (begins (tag_of g.its)) 56 (at_node (λ s n. ltb (begins (tag_of n)) 56) refl g.its))
 
-  pub tag_low : 16 ≤ t
-  tag_low = omega (arith, row.low)
+  short : closes (begins t) < begins t + 6
+  short =
+      let fits = λ (s : Sort) (n : Node s). ltb (closes (begins (tag_of n))) (begins (tag_of n) + 6) in
+      rw g.is (ltb-true (closes (begins (tag_of g.its))) (begins (tag_of g.its) + 6) (at_node fits refl g.its))
 
   pub row_short : length (row_of t) ≤ 5
-  row_short = omega (arith, row.short, length-take (closes (begins t) - begins t) (drop (begins t) table))
+  row_short = omega (arith, short, length-take (closes (begins t) - begins t) (drop (begins t) table))
 
   -- as the code has it, from a to z
   module _ {a : ℕ} (e : a ≡ begins t) where
     pub row_begins : a ≤ 55
-    row_begins = omega (arith, row.high)
+    row_begins = omega (arith, high)
 
     module _ {z : ℕ} (f : z ≡ closes a) where
       ends : z ≡ closes (begins t)
       ends = f ∙ ap closes e
 
-      pub row_order : a ≤ z
-      row_order = omega (arith, ends, row.order)
-
       pub row_inside : z ≤ 60
-      row_inside = omega (arith, ends, row.high, row.short)
+      row_inside = omega (arith, ends, high, short)
 
       pub row_lent : take (z - a) (drop a table) ≡ row_of t
       row_lent = rw (ends, e)

@@ -29,7 +29,7 @@ use Rattle.text.proofs.WordLaws as words
 use Rattle.text.proofs.Near.{mark_short, pair_short, words_short, bytes_short}
 use Rattle.text.proofs.Table.{row_word}
 use Rattle.text.proofs.Heads.{follows_behind}
-use Rattle.text.proofs.Conversion.{converts_done, converts_fault, converts_written, Arm, arm}
+use Rattle.text.proofs.Conversion.{converts_done, converts_written, Arm, arm}
 
 abbrev Readable : Way → List Pair → Type 0
 Readable Way.ToFile xs = InRange xs
@@ -79,14 +79,6 @@ module _ (w : Way) (b : List ℕ) (bs : Bytes b) where
   module _ (e : EndC) (at k : ℕ) where
     abbrev its_pair : Scan Pair
     its_pair = (reader w b).pair (source_end w (end_of e)) at k
-
-    pub numbers_fault : {n p to : ℕ} {before after : List ℕ} → Numbers.Fault n p ≡ numbers_of its_pair → length after ≡ length before
-        → Converts (written e) to before after its_pair (Converted.Fault n p)
-    numbers_fault {n} {p} {to} {before} {after} h l = go its_pair h
-      where
-        go : (x : Scan Pair) → Numbers.Fault n p ≡ numbers_of x → Converts (written e) to before after x (Converted.Fault n p)
-        go (done x a c) h = never (cc)
-        go (fault m q) h = converts_fault (cc) l
 
     pub numbers_are : {pair next to on : ℕ} {before after : List ℕ} → Numbers.Are pair next ≡ numbers_of its_pair → at ≤ length b → to + 12 ≤ length before
         → Puts (written e (pair / 65536, pair % 65536)) to before after on
@@ -193,10 +185,16 @@ module _ (w : Way) (b : List ℕ) (bs : Bytes b) where
             d.few,
           )
 
-      pub node_puts : (on ≤ to + 6) × (length mid ≡ length before)
+      node_puts : (on ≤ to + 6) × (length mid ≡ length before)
       node_puts =
           let m = mark_six w s o.its out in
           (omega (arith, mark_puts.last), puts_length mark_puts (omega (arith, o.few)))
+
+      -- behind it there is room for what is below it
+      pub node_room : Room (record { at = next; nodes = k + 1; to = on }) mid × (on + 12 ≤ length mid)
+      node_room =
+          let p = node_puts in
+          (record { used = omega (arith, p.0); long = omega (arith, p.1) }, omega (arith, p.0, p.1, o.few))
 
       pub node_converts : (after : List ℕ) (answer : Converted) → Below next on mid after answer g → Whole to before after answer
       node_converts after answer a = rw o.goes

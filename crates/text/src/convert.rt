@@ -20,7 +20,7 @@ use files::{bytes, policy, write};
 pub const LONGEST: usize = 4593;
 
 // Which form is read and which is written.
-#[derive(Drop)]
+#[derive(Clone, Copy)]
 pub enum Way {
     ToFile,
     ToText,
@@ -60,6 +60,7 @@ pub enum Parsed {
     Accepted { bytes: usize },
 }
 
+#[tactic(auto, using(crate::proofs::Heads::word_cut, crate::proofs::Heads::word_strange, crate::proofs::Heads::word_limited, crate::proofs::Heads::word_on, crate::proofs::Heads::word_off))]
 fn word_at(text: &[u8], sort: Sort, left: usize, end: End, at: usize, nodes: usize) -> Met
     ensures { result ≡ met_of (head_at 255 text.now (sort_of sort) left (end_of end) at nodes) }
 {
@@ -88,6 +89,7 @@ fn word_at(text: &[u8], sort: Sort, left: usize, end: End, at: usize, nodes: usi
     }
 }
 
+#[tactic(auto, using(crate::proofs::Heads::byte_stop, crate::proofs::Heads::byte_node))]
 fn byte_at(file: &[u8], sort: Sort, left: usize, at: usize, nodes: usize) -> Met
     ensures { result ≡ met_of (P.head_at 255 file.now (sort_of sort) left at nodes) }
 {
@@ -118,6 +120,7 @@ fn met_at(
     }
 }
 
+#[tactic(auto, using(crate::proofs::Numbers::number_inside, crate::proofs::Numbers::pair_first, crate::proofs::Numbers::pair_second, crate::proofs::Numbers::pair_both))]
 fn numbers_in_words(text: &[u8], end: End, at: usize) -> Numbers
     requires { at ≤ length text.now }
     ensures { (k : ℕ) → result ≡ numbers_of (pair_at text.now (end_of end) at k) }
@@ -137,6 +140,7 @@ fn numbers_in_words(text: &[u8], end: End, at: usize) -> Numbers
     }
 }
 
+#[tactic(auto, unfolding(files::specs::ReadPolicy::pair_at))]
 fn numbers_in_bytes(file: &[u8], at: usize) -> Numbers
     requires { at ≤ length file.now }
     ensures { (k : ℕ) → result ≡ numbers_of (P.pair_at file.now at k) }
@@ -165,6 +169,7 @@ fn numbers_at(way: Way, source: &[u8], end: End, at: usize) -> Numbers
 }
 
 // A node at `to`: the place behind it.
+#[tactic(auto, using(files::proofs::Memory::puts_byte))]
 fn put_node(way: Way, tag: u8, shape: Shape, end: End, space: &mut [u8], to: usize) -> usize
     requires { IsTag tag × (to + 6 ≤ length space.old) }
     ensures { Puts (marked way tag shape end) to space.old space.new result }

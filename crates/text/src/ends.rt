@@ -6,7 +6,7 @@ ghost use Rattle.text.specs.Cases.{end_of, follows, step_of};
 
 use files::policy::Shape;
 
-#[derive(Drop)]
+#[derive(Clone, Copy)]
 pub enum End {
     Space,
     LineFeed,
@@ -51,6 +51,7 @@ pub fn behind(shape: Shape, end: End) -> End
 }
 
 // The place behind the byte of `end`, which is due at `at`.
+#[tactic(auto, unfolding(crate::specs::ReadText::past))]
 pub fn past(text: &[u8], end: End, at: usize) -> Step
     ensures { result ≡ step_of (R.past text.now (end_of end) at) }
 {

@@ -12,6 +12,7 @@ use files::frame::Frame;
 use files::{frame, policy, write};
 
 // The policy file of the line that `text` is, at the front of `file`.
+#[tactic(auto, using(crate::proofs::Conversion::refusal_given, crate::proofs::Conversion::frame_given), unfolding(crate::specs::ReadText::read_text))]
 pub fn read_line(text: &[u8], file: &mut [u8]) -> Parsed
     requires { 4593 ≤ length file.old }
     ensures { Gives policy_file file.new (read_text text.now) result }

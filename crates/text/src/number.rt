@@ -51,6 +51,7 @@ fn digit(byte: u8) -> u32
 }
 
 // The number that a run of digits stands for, if that is below 65,536; else any number from there on.
+#[tactic(auto, using(crate::proofs::Loops::valuing_over))]
 fn value(run: &[u8]) -> u32
     ensures { Valued run.now result }
 {
@@ -67,6 +68,7 @@ fn value(run: &[u8]) -> u32
 }
 
 // The number that is written so, or 65,536 if none up to 65,535 is.
+#[tactic(auto, using(crate::proofs::Numbers::number_over, crate::proofs::Numbers::number_as, crate::proofs::Numbers::its_value, crate::proofs::Decimal::digits_short, files::proofs::Memory::puts_front, files::proofs::Memory::puts_length))]
 fn number_in(run: &[u8]) -> u32
     ensures { result ≡ cond (R.is_number run.now) (R.value 0 run.now) 65536 }
 {
@@ -83,6 +85,7 @@ fn number_in(run: &[u8]) -> u32
 }
 
 // The number due at `at`, with what is to follow it.
+#[tactic(auto, using(crate::proofs::Numbers::number_none, crate::proofs::Numbers::number_on, crate::proofs::Numbers::number_off))]
 pub fn number_at(text: &[u8], end: End, at: usize) -> Number
     requires { at ≤ length text.now }
     ensures { result ≡ number_of (R.number_at text.now (end_of end) at) }

@@ -17,6 +17,7 @@ use files::{tags, write};
 const WORDS: [u8; 60] = *b"tatomtnot topt tand tor  pzeropone ptar pnot pdbd pand por  ";
 
 // Where the word of a tag begins in the table.
+#[tactic(auto, using(crate::proofs::Table::tag_low))]
 fn begin(tag: u8) -> usize
     requires { IsTag tag }
     ensures { result ≡ begins tag }
@@ -61,6 +62,7 @@ pub fn run_end(text: &[u8], at: usize) -> usize
 }
 
 // Whether two are the same, byte by byte.
+#[tactic(auto, using(crate::proofs::Loops::same_lengths))]
 pub fn same(a: &[u8], b: &[u8]) -> bool
     ensures { result ≡ R.same a.now b.now }
 {
