@@ -14,11 +14,13 @@ use Rattle.files.specs.declared.policy.Sort.{Sort as SortC}
 use Rattle.files.specs.declared.policy.Shape.{Shape as ShapeC}
 use Rattle.files.specs.declared.policy.Head.{Head as HeadC}
 use Rattle.files.specs.declared.policy.Scanned.{Scanned}
-use Rattle.files.proofs.PolicySeen.{never, named_sort, Tagged, under, seen_at, seen_two_at, head_tagged, pair_done}
+use Rattle.ptacl.proofs.Codes.{code_small}
+use Rattle.files.proofs.Framing.{lent_bytes}
+use Rattle.files.proofs.PolicySeen.{never, named_sort, Tagged, under, seen_at, seen_two_at, head_tagged, small_pair, pair_done, word_below, scans}
 use Rattle.files.proofs.View.{as_node, as_two, ends}
 use Rattle.evaluate.specs.Worth.{worth, atom_code, Made}
 use Rattle.evaluate.specs.Walked.{Comes, Walked, Numbered, LeafSet, OneSet, TwoSet}
-use Rattle.evaluate.proofs.Worth.{Owns, owns}
+use Rattle.evaluate.proofs.Worth.{atom_code_told, Owns, owns}
 
 -- what a node of a shape, known by its tag, makes of the sets below it
 module _ (b : List ℕ) (i : ℕ) (q : Request) where
@@ -124,3 +126,6 @@ module _ (b : List ℕ) (s : Sort) (left at nodes : ℕ) (q : Request) where
             let t = head_tagged _ _ _ _ _ _ _ _ h in
             rw i.1 (made _ _ _ t _ _ _ _ _ (moved t.behind (sym f) (x.comes e)) (moved refl (sym g) (y.comes j)) l);
       })
+
+-- what is seen of an atom's numbers, the word that tells it, and the atom's value
+pub ruleset numbered_laws = (small_pair, pair_done, word_below, scans, lent_bytes, atom_code_told, code_small)

@@ -29,6 +29,7 @@ fn place_of(file: &[u8], pair: u32) -> usize
 }
 
 // The value of the atom with this pair. If the request holds its name at all, then at the pair's place or just before it.
+#[tactic(auto, using(crate::proofs::Ordered::atom_one, crate::proofs::Ordered::atom_zero))]
 pub fn atom(file: &[u8], pair: u32) -> TargetValue
     requires { OrderedFile file.now }
     ensures { value_of result ≡ atom_at (map unpacked (numbers_of file.now)) (pair / 65536) (pair % 65536) }
@@ -53,6 +54,7 @@ pub fn atom(file: &[u8], pair: u32) -> TargetValue
 }
 
 // Whether the request holds the pair.
+#[tactic(auto, using(crate::proofs::Ordered::is_held))]
 pub fn holds(file: &[u8], pair: u32) -> bool
     requires { OrderedFile file.now }
     ensures { result ≡ R.holds (map unpacked (numbers_of file.now)) (unpacked pair) }

@@ -72,6 +72,7 @@ fn set_of(word: u64) -> DecisionSet
 }
 
 // An atom's numbers at `at`, with `nodes` nodes up to there.
+#[tactic(auto, using(crate::proofs::Walked::numbered_laws))]
 fn eval_numbers(file: &[u8], at: usize, nodes: usize, request: &[u8]) -> u64
     requires { (at ≤ length file.now) × (length file.now ≤ 65538) × (nodes < 256) × OrderedFile request.now }
     ensures { Numbered file.now at (map unpacked (numbers_of request.now)) (seen (pair_at file.now at nodes)) result }
@@ -85,6 +86,7 @@ fn eval_numbers(file: &[u8], at: usize, nodes: usize, request: &[u8]) -> u64
 }
 
 // A term at `at`, with `left` of the depth left and `nodes` nodes before it. A target's value is told as the set of that value alone.
+#[tactic(auto, using(files::proofs::PolicySeen::within_limits, files::proofs::PolicySeen::stop_within))]
 fn eval_term(file: &[u8], sort: Sort, left: usize, at: usize, nodes: usize, request: &[u8]) -> u64
     requires { (length file.now ≤ 65538) × OrderedFile request.now }
     ensures { Walked (sort_of sort) file.now at (map unpacked (numbers_of request.now))
@@ -125,6 +127,7 @@ fn eval_term(file: &[u8], sort: Sort, left: usize, at: usize, nodes: usize, requ
 }
 
 // Evaluates the policy of a file, which is read on the way.
+#[tactic(auto, using(files::proofs::Framing::lent_bytes, files::proofs::Framing::whole_file, files::proofs::Framing::whole_short, files::proofs::PolicySeen::file_refused, files::proofs::PolicySeen::file_framed))]
 pub fn eval_policy(file: &[u8], request: &[u8]) -> Evaluation
     requires { OrderedFile request.now }
     ensures { Evaluates file.now (map unpacked (numbers_of request.now)) result }
