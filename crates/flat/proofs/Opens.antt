@@ -31,13 +31,6 @@ is_due b d e f a k = λ i. seen (scan (in_bytes 255 b) (e i) (f i) tt a k)
 pub head_same : (b : List ℕ) (at nodes : ℕ) {s r : Sort} {l m : ℕ} → s ≡ r → l ≡ m → head_of (head_at 255 b s l at nodes) ≡ head_of (head_at 255 b r m at nodes)
 head_same b at nodes e f = λ i. head_of (head_at 255 b (e i) (f i) at nodes)
 
--- its sort, by the last bit
-pub due_target : (d : ℕ) → d % 2 ≡ 0 → sort_due d ≡ target
-due_target d e = rw e
-
-pub due_policy : (d : ℕ) → d % 2 ≡ 1 → sort_due d ≡ policy
-due_policy d e = rw e
-
 same_sort_due : (d : ℕ) → 2 ≤ d → sort_due (d - 2) ≡ sort_due d
 same_sort_due d l = let e : (d - 2) % 2 ≡ d % 2 = omega arith in ap (λ n. cond (eqb n 0) target policy) e
 

@@ -1,5 +1,5 @@
 -- The reader's loop: what is due, read from here on, gives the whole answer, and each node met so far has its place.
-use Prim.Native.Nat.{ℕ, zero, suc, ◌+◌, ◌*◌, ◌-◌, ◌/◌, ◌≤◌, ◌<◌, max}
+use Prim.Native.Nat.{ℕ, zero, suc, ◌+◌, ◌*◌, ◌/◌, ◌≤◌, ◌<◌, max}
 use mathlib.Core.Path.{◌≡◌, refl, sym, ap, subst, ◌∙◌}
 use mathlib.Core.Bool.{Bool, true, false, cond}
 use mathlib.Core.List.{List, [], ◌∷◌, ◌++◌}
@@ -7,7 +7,7 @@ use native.Mathlib.Decide.{dec_lt}
 use native.Mathlib.Numerals.{add-one}
 use native.Mathlib.Omega.{arith}
 use lib.Dec.{eqb}
-use lib.ListN.{length, drop, get_or, set, length-drop, length-set, drop_of_length-le}
+use lib.ListN.{length, drop, get_or, set, length-set, drop_of_length-le}
 use lib.Seq.{drop-cons, get_or-set_same, get_or-set_other}
 use Rattle.ptacl.specs.Term.{policy, an_atom, tag_of}
 use Rattle.files.specs.Prefix.{scan}
@@ -18,7 +18,6 @@ use Rattle.files.proofs.PolicySeen.{never}
 use Rattle.flat.specs.Places.{behind, place_of}
 use Rattle.flat.specs.Due.{seen_due, seen_all, Lower, Opens}
 use Rattle.flat.specs.Read.{NodesRead}
-use Rattle.flat.proofs.Lists.{drop_put}
 
 -- how high the stack of what is due may yet get
 abbrev pub tallest : List ℕ → ℕ
@@ -103,7 +102,7 @@ module _ {b places stack : List ℕ} {top due at nodes : ℕ} (l : Loop b places
   pub loop_near : (at < 65536) × (nodes < length places)
   loop_near = omega (arith, l.reading.here, l.reading.few, l.reading.room, place_near b nodes)
 
-  pub loop_places : length (set places nodes at) ≡ 256
+  loop_places : length (set places nodes at) ≡ 256
   loop_places = length-set places nodes at ∙ l.reading.room
 
   pub loop_stop : {n p : ℕ} → Scanned.Fault n p ≡ seen_due b due at nodes → NodesRead b (Scanned.Fault n p) (set places nodes at)
@@ -131,22 +130,3 @@ module _ {b places stack : List ℕ} {top due at nodes : ℕ} (l : Loop b places
         size = l.size;
         low = omega (arith, l.low);
       }
-
-    pub loop_one : {first : ℕ} → Opens b due at nodes next (first ∷ []) → Loop b (set places nodes at) stack top first next (nodes + 1)
-    loop_one o = record { reading = reading_node l.reading (omega arith) o; size = l.size; low = l.low }
-
-    -- one goes onto the stack
-    module _ {first second : ℕ} (o : Opens b due at nodes next (first ∷ second ∷ [])) where
-      pub loop_room : (1 ≤ top) × (top ≤ length stack)
-      loop_room = omega (arith, l.reading.tall, l.size, l.low, o.lower.0, length-drop top stack)
-
-      pub loop_two : Loop b (set places nodes at) (set stack (top - 1) second) (top - 1) first next (nodes + 1)
-      loop_two =
-          let e : suc (top - 1) ≡ top = omega (arith, loop_room) in
-          record {
-            reading = subst (λ ds. Reading b (first ∷ ds) (set places nodes at) next (nodes + 1))
-                (sym (drop_put stack (top - 1) second (omega (arith, loop_room)) ∙ ap (λ m. second ∷ drop m stack) e))
-                (reading_node l.reading (omega arith) o);
-            size = length-set stack (top - 1) second ∙ l.size;
-            low = omega (arith, l.low);
-          }

@@ -17,7 +17,7 @@ use ptacl::DecisionSet;
 
 // The stack of values, each a set's code: the topmost, and where the others begin in the memory that is lent with it.
 // Below them all lies a 0, which was there before the first.
-#[derive(Drop)]
+#[derive(Clone, Copy)]
 pub struct Stack {
     pub own: u8,
     pub top: usize,
