@@ -1,4 +1,4 @@
--- What callers take from the contracts: the named pairs are ready to be passed on; the lists are a policy's pairs and a normal form.
+-- What callers take from the contracts: the lists are a policy's pairs and a normal form.
 use Prim.Native.Nat.{ℕ, ◌≤◌}
 use mathlib.Core.Path.{◌≡◌, refl, sym, ◌∙◌}
 use mathlib.Core.List.{List, map}
@@ -9,9 +9,7 @@ use Rattle.ptacl.specs.Request.{Pair, Request}
 use Rattle.ptacl.specs.Pairs.{IsPairs, packed, unpacked, IsNormal}
 use Rattle.ptacl.specs.Term.{Policy, atoms}
 use Rattle.files.specs.Encoding.{enc}
-use Rattle.files.specs.Places.{Encoded}
 use Rattle.files.proofs.Numbers.{map_packed_unpacked}
-use Rattle.evaluate.specs.Ordered.{Ordered}
 use Rattle.pairs.specs.Lists.{Pairs, numbers, NamedOf, AllOf, NormalOf, PairsOf, NormalFormOf}
 
 -- the numbers of the list are those of pairs that are as told
@@ -37,20 +35,13 @@ listed Told l few long t = record {
     taken : length (numbers l) ≡ l.count
     taken = length-take-le l.count l.pairs (omega arith)
 
--- the named pairs of a policy's bytes, passed on as a slice
-module _ {b : List ℕ} {named : Pairs} (n : NamedOf b named) where
-  pub named_front : length named.pairs ≡ 254 → length (numbers named) ≡ named.count
-  named_front l = length-take-le named.count named.pairs (omega (arith, n.most))
+-- what is made of the named pairs of a policy's bytes
+module _ {b : List ℕ} {named l : Pairs} (n : NamedOf b named) where
+  pub all_pairs_of : AllOf (numbers named) l → PairsOf b l
+  all_pairs_of a = record { right = λ p e. a.right (atoms p) (n.right p e) }
 
-  pub named_ready : Encoded b → length named.pairs ≡ 254 → (length (numbers named) ≤ 127) × Ordered (numbers named)
-  named_ready e l = (omega (arith, n.most, named_front l), record { rises = (n.right e.term e.bytes).ordered })
-
-  module _ {l : Pairs} where
-    pub all_pairs_of : AllOf (numbers named) l → PairsOf b l
-    all_pairs_of a = record { right = λ p e. a.right (atoms p) (n.right p e) }
-
-    pub all_normal : {q : Request} → NormalOf (numbers named) q l → NormalFormOf b q l
-    all_normal a = record { right = λ p e. a.right (atoms p) (n.right p e) }
+  pub all_normal : {q : Request} → NormalOf (numbers named) q l → NormalFormOf b q l
+  all_normal a = record { right = λ p e. a.right (atoms p) (n.right p e) }
 
 -- the lists that the operations write
 module _ {b : List ℕ} (p : Policy) (e : b ≡ enc p) (l : Pairs) (long : length l.pairs ≡ 254) where

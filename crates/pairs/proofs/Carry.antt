@@ -6,9 +6,9 @@ use mathlib.Core.List.{List, [], ◌∷◌, ◌++◌, map}
 use native.Mathlib.Numerals.{add-one}
 use native.Mathlib.Omega.{arith}
 use lib.Dec.{eqb, ltb}
-use lib.ListN.{length, take, drop, set, get_or, length-set, take-append-drop}
-use lib.Seq.{drop-cons, take-suc, take-suc-set, drop-set-lt, take-set-lt, append_snoc, length-take-le, get_or-take, drop-length, take-length}
-use borrow.Author.Tests.{eqb-true, eqb-false, ltb-true, ltb-false, eq-eqb, ne_eqb, lt-ltb, le-ltb}
+use lib.ListN.{length, take, drop, set, get_or, length-set}
+use lib.Seq.{drop-cons, take-suc, take-suc-set, drop-set-lt, take-set-lt, append_snoc, length-take-le, get_or-take}
+use borrow.Author.Tests.{eqb-true, eqb-false, ltb-true, ltb-false, ne_eqb, lt-ltb, le-ltb}
 use Rattle.ptacl.specs.Request.{Pair, same_pair, holds, below, below_head, ascending}
 use Rattle.ptacl.specs.Pairs.{unpacked}
 use Rattle.ptacl.proofs.Bools.{either, and_right, or_swap}
@@ -57,10 +57,7 @@ pub record Carried (x : ℕ) (l₀ pairs : List ℕ) (count held i : ℕ) : Type
   pub size : length pairs ≡ 254
   pub work : take i (take count pairs) ++ carry held (drop i (take count pairs)) ≡ carry x l₀
 
-pub carried_start : (x : ℕ) (pairs : List ℕ) (count : ℕ) → length pairs ≡ 254 → Carried x (take count pairs) pairs count x 0
-carried_start x pairs count s = record { most = omega arith; size = s; work = refl }
-
--- a step on the list: the number stays here and what stood here is carried on, or it is carried past, or it stands here already
+-- a step on the list: the number stays here and what stood here is carried on, or it is carried past
 module _ (l : List ℕ) (i h : ℕ) (lt : i < length l) where
   swap_at : h < get_or l i 0
       → take (i + 1) (set l i h) ++ carry (get_or l i 0) (drop (i + 1) (set l i h)) ≡ take i l ++ carry h (drop i l)
@@ -70,9 +67,6 @@ module _ (l : List ℕ) (i h : ℕ) (lt : i < length l) where
 
   pass_at : (get_or l i 0 ≡ h → ⊥) → get_or l i 0 ≤ h → take (i + 1) l ++ carry h (drop (i + 1) l) ≡ take i l ++ carry h (drop i l)
   pass_at n k = rw (add-one, take-suc l i 0 lt, append_snoc, drop-cons l i 0 lt, ne_eqb _ _ n, le-ltb _ _ k)
-
-  there_at : get_or l i 0 ≡ h → take i l ++ carry h (drop i l) ≡ l
-  there_at e = ap (λ z. take i l ++ z) (rw (drop-cons l i 0 lt, eq-eqb _ _ e)) ∙ take-append-drop i l
 
 module _ (x : ℕ) (l₀ pairs : List ℕ) (count held i : ℕ) (few : count < 254) (c : Carried x l₀ pairs count held i) where
   long : length (take count pairs) ≡ count
@@ -96,13 +90,3 @@ module _ (x : ℕ) (l₀ pairs : List ℕ) (count held i : ℕ) (few : count < 2
         size = c.size;
         work = pass_at (take count pairs) i held (omega (arith, long)) (λ e. n (sym at ∙ e)) (omega arith) ∙ c.work;
       }
-
-  pub carried_there : i < count → get_or pairs i 0 ≡ held → take count pairs ≡ carry x l₀
-  carried_there lt e = sym (there_at (take count pairs) i held (omega (arith, long)) (get_or-take count pairs i 0 lt ∙ e)) ∙ c.work
-
-  pub carried_end : count ≤ i → (length (set pairs count held) ≡ 254) × (take (count + 1) (set pairs count held) ≡ carry x l₀)
-  carried_end k =
-      let e : i ≡ length (take count pairs) = omega (arith, c.most, long) in (
-        length-set pairs count held ∙ c.size,
-        rw (add-one, take-suc-set pairs count held (omega (arith, c.size))) (sym (rw (e, take-length, drop-length)) ∙ c.work),
-      )

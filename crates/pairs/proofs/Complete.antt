@@ -9,17 +9,17 @@ use lib.ListN.{length, drop, get_or, drop_of_length-le}
 use borrow.Author.Tests.{eqb-true}
 use Rattle.ptacl.specs.Request.{Pair, holds, has, ascending}
 use Rattle.ptacl.specs.Pairs.{named_or_fresh, IsPairs, unpacked}
-use Rattle.ptacl.proofs.Bools.{either, or_left}
+use Rattle.ptacl.proofs.Bools.{either}
 use Rattle.ptacl.proofs.Requests.{holds_has}
+use Rattle.files.specs.Memory.{over}
 use Rattle.files.proofs.Places.{more}
+use Rattle.files.proofs.Memory.{over_front}
+use Rattle.evaluate.specs.Ordered.{Ordered}
 use Rattle.evaluate.proofs.Ordered.{entry_held}
-use Rattle.pairs.specs.Lists.{Pairs, numbers, carry, FreshOf, GoesOn, AllOf}
+use Rattle.pairs.specs.Lists.{Pairs, front, numbers, carry, FreshOf, AllOf}
 use Rattle.pairs.proofs.Carry.{carry_moves, carry_ascending}
 use Rattle.pairs.proofs.Fresh.{smallest, fresh_only}
 use Rattle.pairs.proofs.Same.{pairs_same}
-
-pub next_name : (list : List ℕ) (i name : ℕ) → i + 1 < length list → GoesOn list i name (eqb (get_or list (i + 1) 0 / 65536) name)
-next_name list i name h = record { later = λ e. rw (more list (i + 1) h) (or_left _ e) }
 
 -- the pairs in the list and the fresh ones of the names still to come are all
 pub record Completed (l : List ℕ) (all : Pairs) (i : ℕ) : Type 0 where
@@ -31,9 +31,9 @@ pub record Completed (l : List ℕ) (all : Pairs) (i : ℕ) : Type 0 where
       || has (map unpacked (drop i l)) x.0 && smallest (map unpacked (l)) x)
       ≡ named_or_fresh (map unpacked (l)) x
 
-pub completed_start : (l : List ℕ) (all : Pairs) → numbers all ≡ l → all.count ≡ length l → ascending (map unpacked l) ≡ true → Completed l all 0
+pub completed_start : (l s : List ℕ) → Ordered l → Completed l (front (over l s) (length l)) 0
 unfolding named_or_fresh
-completed_start l all e n o = record { most = omega arith; room = omega arith; ordered = rw e o; work = λ x. rw e }
+completed_start l s o = record { most = omega arith; room = omega arith; ordered = rw (over_front l s) o.rises; work = λ x. rw (over_front l s) }
 
 module _ (l : List ℕ) (all : Pairs) (i : ℕ) (c : Completed l all i) where
   module _ (inside : i < length l) (name : ℕ) (here : name ≡ get_or l i 0 / 65536) where
@@ -72,16 +72,17 @@ module _ (l : List ℕ) (all : Pairs) (i : ℕ) (c : Completed l all i) where
           ap (λ b. held || b && free) (again ∙ sym (names x.0)) ∙ c.work x;
     }
 
-  whole : length l ≤ i → IsPairs (map unpacked l) (map unpacked (numbers all))
-  whole h = record {
-    ordered = c.ordered;
-    members = λ x. sym (or-false (holds (map unpacked (numbers all)) x)) ∙ (rw (drop_of_length-le l h) at (c.work x));
-  }
-
-  pub completed_end : length l ≤ 127 → length l ≤ i → AllOf l all
-  completed_end few h = record {
-    right = λ ats n. record {
-      most = omega (arith, c.room, c.most);
-      pairs = pairs_same (map unpacked l) ats n.members (whole h);
-    };
-  }
+-- at the end of the list none is to come
+pub completed_end : (l : List ℕ) (all : Pairs) → Completed l all (length l) → length l ≤ 127 → AllOf l all
+completed_end l all c few = record {
+  right = λ ats n. record {
+    most = omega (arith, c.room);
+    pairs = pairs_same (map unpacked l) ats n.members whole;
+  };
+}
+  where
+    whole : IsPairs (map unpacked l) (map unpacked (numbers all))
+    whole = record {
+      ordered = c.ordered;
+      members = λ x. sym (or-false (holds (map unpacked (numbers all)) x)) ∙ (rw (drop_of_length-le l {i = length l} (omega arith)) at (c.work x));
+    }

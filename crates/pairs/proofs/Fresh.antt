@@ -19,19 +19,16 @@ use Rattle.pairs.specs.Lists.{FreshOf}
 -- every value below is named
 pub record Tried (l : List ℕ) (n v : ℕ) : Type 0 where
   pub low : all_below (λ w. named (map unpacked l) (n, w)) v ≡ true
+  pub few : v ≤ 127
 
-pub tried_start : (l : List ℕ) (n : ℕ) → Tried l n 0
-tried_start l n = record { low = refl }
-
-module _ (l : List ℕ) (n v : ℕ) (few : length l ≤ 127) (t : Tried l n v) where
-  pub tried_few : v ≤ 127
-  tried_few = omega (arith, full (map unpacked l) n v t.low, length-map l unpacked)
-
+module _ (l : List ℕ) (n v : ℕ) (t : Tried l n v) where
   here : unpacked (n * 65536 + v) ≡ (n, v)
-  here = unpacked_packed (n, v) (omega (arith, tried_few))
+  here = unpacked_packed (n, v) (omega (arith, t.few))
 
-  pub tried_next : holds (map unpacked l) (unpacked (n * 65536 + v)) ≡ true → Tried l n (v + 1)
-  tried_next h = record { low = rw add-one (and_both (rw here at h) t.low) }
+  pub tried_next : length l ≤ 127 → holds (map unpacked l) (unpacked (n * 65536 + v)) ≡ true → Tried l n (v + 1)
+  tried_next k h =
+      let low : all_below (λ w. named (map unpacked l) (n, w)) (v + 1) ≡ true = rw add-one (and_both (rw here at h) t.low) in
+      record { low = low; few = omega (arith, full (map unpacked l) n (v + 1) low, length-map l unpacked) }
 
   pub tried_end : holds (map unpacked l) (unpacked (n * 65536 + v)) ≡ false → FreshOf (map unpacked l) n (unpacked (n * 65536 + v))
   tried_end h = rw here (record { name = refl; free = rw here at h; smallest = t.low })

@@ -5,3 +5,4 @@ pub mod Same
 pub mod Complete
 pub mod Keep
 pub mod Callers
+pub mod Copied

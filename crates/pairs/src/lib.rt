@@ -1,5 +1,7 @@
 // The pairs of a policy that was read, and the normal form of a request. A list goes to the front of a lent array of the largest size
 // that it can have; an array that is returned would be copied.
+#![tactic(auto)]
+
 ghost use Rattle.std.specs.Prelude.{◌≡◌, true, map, ◌+◌, ◌/◌, ◌≤◌, ◌<◌, length, take};
 ghost use Rattle.ptacl.specs.Pairs.{unpacked, named, named_or_fresh, unnamed, normal};
 ghost use Rattle.files.specs.Memory.{over};
@@ -33,6 +35,7 @@ fn insert(pairs: &mut [u32; 254], count: usize, pair: u32) -> usize
 }
 
 // The named pairs of the policy whose bytes these are, ascending at the front of `pairs`: how many they are.
+#[tactic(auto, using(crate::proofs::Gather::gathered_start, crate::proofs::Gather::gathered_node))]
 fn named_of(term: &[u8], pairs: &mut [u32; 254]) -> usize
     requires { Encoded term.now × (length pairs.old ≡ 254) }
     ensures { (length pairs.new ≡ 254) × NamedOf term.now (front pairs.new result) }
@@ -66,6 +69,7 @@ fn is_named(list: &[u32], pair: u32) -> bool
 }
 
 // The fresh pair of a name: its values are tried from 0 on, each against the named pairs.
+#[tactic(auto, using(crate::proofs::Fresh::tried_end))]
 fn fresh_of(named: &[u32], name: u32) -> u32
     requires { (name < 65536) × (length named.now ≤ 127) × Ordered named.now }
     ensures { FreshOf (map unpacked named.now) name (unpacked result) }
@@ -96,6 +100,7 @@ fn goes_on(list: &[u32], i: usize, name: u32) -> bool
 }
 
 // The named pairs, and the fresh pair of each of their names, which is put in at the last pair of the name: how many they are.
+#[tactic(auto, using(crate::proofs::Complete::completed_end))]
 fn all_of(named: &[u32], pairs: &mut [u32; 254]) -> usize
     requires { (length named.now ≤ 127) × Ordered named.now × (length pairs.old ≡ 254) }
     ensures { (length pairs.new ≡ 254) × AllOf named.now (front pairs.new result) }
@@ -134,6 +139,7 @@ fn holds_unnamed(named: &[u32], request: &[u8], name: u32) -> bool
 }
 
 // Whether one of the policy's pairs is in the normal form.
+#[tactic(auto, using(crate::proofs::Keep::keep_named, crate::proofs::Keep::keep_fresh))]
 fn is_kept(named: &[u32], request: &[u8], pair: u32) -> bool
     requires { OrderedFile request.now × (named_or_fresh (map unpacked named.now) (unpacked pair) ≡ true) }
     ensures { result ≡ normal (map unpacked named.now) (map unpacked (numbers_of request.now)) (unpacked pair) }
@@ -145,6 +151,7 @@ fn is_kept(named: &[u32], request: &[u8], pair: u32) -> bool
 }
 
 // The normal form of a request: how many pairs it has.
+#[tactic(auto, using(crate::proofs::Keep::kept_in, crate::proofs::Keep::kept_out))]
 fn normal_of(named: &[u32], request: &[u8], kept: &mut [u32; 254]) -> usize
     requires { (length named.now ≤ 127) × Ordered named.now × OrderedFile request.now × (length kept.old ≡ 254) }
     ensures { (length kept.new ≡ 254)
@@ -187,6 +194,7 @@ pub fn normal_form_of(body: &[u8], request: &[u8], kept: &mut [u32; 254]) -> usi
 }
 
 // Copies numbers to the front of a lent slice.
+#[tactic(auto, using(crate::proofs::Copied::copied_more), unfolding(files::specs::Memory::over))]
 pub fn copy(from: &[u32], to: &mut [u32])
     requires { length from.now ≤ length to.old }
     ensures { to.new ≡ over from.now to.old }
