@@ -119,6 +119,9 @@ module _ {b : List ℕ} where
         right = λ p e. simp (tells a_targeted w p e, tells (a_not target) x p e, tells (a_default policy) y p e, tells (a_not policy) z p e);
       }
 
+-- the answers of `by_nodes`
+pub ruleset by_nodes_laws = (rule_2, not_plain, rule_3, rule_4)
+
 -- where none of the rules 1 to 4 applies, the number by the policies below
 abbrev first : Bool → Bool → Bool → Bool → ℕ → ℕ
 first a b c d k = cond a 1 (cond b 2 (cond c 3 (cond d 4 k)))
@@ -153,7 +156,7 @@ certificate_else (or p r) = base_else (or p r) (below (or p r))
 
 module _ {b : List ℕ} {i n : ℕ} where
   -- the policy's own part of the bytes
-  pub inside : {left : ℕ} → Has policy b i left → Behind policy b i n → (i ≤ n) × (n ≤ length b)
+  pub inside : {left : ℕ} → Has policy b i left → Behind policy b i n → n ≤ length b
   inside h d = omega (arith, d.past h.term h.here, has_room h, simp (length-drop, length-append) at (ap length h.here.split))
 
   part_is : Behind policy b i n → (p : Policy) → At b i (enc p) → take (n - i) (drop i b) ≡ enc p

@@ -1,4 +1,6 @@
 // Certificates by structure, for a policy that was read.
+#![tactic(auto)]
+
 ghost use Rattle.std.specs.Prelude.{◌≡◌, ◌&&◌, ◌||◌, cond};
 ghost use Rattle.ptacl.specs.Term.{target, policy};
 ghost use Rattle.ptacl.specs.Rules.{allows, denies, never, base, given, certificate};
@@ -112,6 +114,7 @@ fn never_denies(file: &[u8], at: usize, left: usize) -> Verdict
 }
 
 // Whether the term whose bytes these are has no node of that tag.
+#[tactic(auto, using(crate::proofs::LacksLoop::lacks_laws))]
 fn lacks(term: &[u8], tag: u8) -> bool
     requires { PolicyBytes term.now }
     ensures { Lacks term.now tag result }
@@ -131,6 +134,7 @@ fn lacks(term: &[u8], tag: u8) -> bool
 }
 
 // The first of the rules 2, 3 and 4 that applies to the policy whose bytes these are, else 0.
+#[tactic(auto, using(crate::proofs::Laws::by_nodes_laws))]
 fn by_nodes(term: &[u8]) -> u8
     requires { PolicyBytes term.now }
     ensures { NodeRule term.now result }
@@ -151,6 +155,7 @@ fn by_nodes(term: &[u8]) -> u8
 }
 
 // The first of the rules 1 to 4 that applies to the policy at `at`, else 0.
+#[tactic(auto, using(crate::proofs::Laws::part, crate::proofs::Laws::base_first, crate::proofs::Laws::base_others))]
 fn base_rule(file: &[u8], at: usize, left: usize) -> Certificate
     requires { Has policy file.now at left }
     ensures { Judged (λ p. base p 0) file.now at result.number result.next }
