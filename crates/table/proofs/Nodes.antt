@@ -14,7 +14,7 @@ use Rattle.ptacl.proofs.Codes.{code_set, code_each, code_each2}
 use Rattle.files.specs.Encoding.{enc}
 use Rattle.files.specs.Refusal.{dec16}
 use Rattle.files.specs.Places.{At, Has}
-use Rattle.files.proofs.View.{has_left, as_node, as_two, ends}
+use Rattle.files.proofs.View.{NotOuter, joins_tag, and_tag, has_left, has_inner, as_node, as_two, ends}
 use Rattle.table.specs.Evaluated.{Told, told, Evaluated}
 
 -- what an operation on values makes of an answer, and of two answers
@@ -42,9 +42,14 @@ acted : (f : Value → Value) {s : Sort} {b : List ℕ} {i m : ℕ} {q : Request
 acted f {s = s} {q = q} x e t h = e ∙ ap (act f s) (x.value t h) ∙ act_told f s (eval t q)
 
 -- what an evaluator, given t nodes left and a fact P, asks where it calls itself for a part
-pub for_part : {s : Sort} {b : List ℕ} {i left t m : ℕ} {P : Type 0} → (left ≡ t) × (Has s b i left × P) → Has s b m (left - 1)
+pub for_part : {s : Sort} {b : List ℕ} {i left t m : ℕ} {P : Type 0} → left ≡ t → Has s b i left × P → Has s b m (left - 1)
     → (left - 1 < t) × (Has s b m (left - 1) × P)
-for_part p h = (omega (arith, has_left p.1.0), (h, p.1.1))
+for_part e p h = (omega (arith, has_left p.0), (h, p.1))
+
+-- past the other tests it is the byte of an and
+pub and_byte : {s : Sort} {b : List ℕ} {i left : ℕ} → Has s b i left → NotOuter s (get_or b i 0) → (get_or b i 0 ≡ tag_of (an_or s) → ⊥)
+    → (get_or b i 0 ≡ tag_of (a_not s) → ⊥) → (get_or b i 0 ≡ tag_of (a_default s) → ⊥) → get_or b i 0 ≡ tag_of (an_and s)
+and_byte p outer or not default = and_tag (joins_tag (has_inner p outer) not default) or
 
 module _ {b : List ℕ} {i : ℕ} {q : Request} where
   pub is_atom : {v : Value} → get_or b i 0 ≡ tag_of an_atom → v ≡ atom_at q (dec16 b (i + 1)) (dec16 b (i + 1 + 2)) → Evaluated target b i q v (i + 5)

@@ -9,7 +9,7 @@ use lib.ListN.{get_or}
 use Rattle.ptacl.specs.Exposure.{bit}
 use Rattle.table.specs.declared.row.Row.{Row}
 use Rattle.table.specs.Rows.{words, row_of, lane, RowIs, lane_of}
-use Rattle.table.proofs.Words.{ones, bit_and, bit_or, bit_not, bit_none, bit_ones}
+use Rattle.table.proofs.Words.{ones, bit_of_and, bit_of_or, bit_of_not, bit_none, bit_ones}
 
 -- so many values of f, from one on
 abbrev listed : (ℕ → ℕ) → ℕ → ℕ → List ℕ
@@ -41,15 +41,15 @@ word r k = get_or (words r) k 0
 
 pub row_and : (a b : Row) → RowIs (row_of (λ k. bit_and (word a k) (word b k))) (λ j. lane a j && lane b j)
 unfolding lane
-row_and a b = row_is (λ k. bit_and (word a k) (word b k)) (λ j h. bit_and _ _ (j % 64))
+row_and a b = row_is (λ k. bit_and (word a k) (word b k)) (λ j h. bit_of_and _ _ (j % 64))
 
 pub row_or : (a b : Row) → RowIs (row_of (λ k. bit_or (word a k) (word b k))) (λ j. lane a j || lane b j)
 unfolding lane
-row_or a b = row_is (λ k. bit_or (word a k) (word b k)) (λ j h. bit_or _ _ (j % 64))
+row_or a b = row_is (λ k. bit_or (word a k) (word b k)) (λ j h. bit_of_or _ _ (j % 64))
 
 pub row_not : (a : Row) → RowIs (row_of (λ k. bit_xor (word a k) ones)) (λ j. not (lane a j))
 unfolding lane
-row_not a = row_is (λ k. bit_xor (word a k) ones) (λ j h. bit_not _ (j % 64) (omega arith))
+row_not a = row_is (λ k. bit_xor (word a k) ones) (λ j h. bit_of_not _ (j % 64) (omega arith))
 
 pub row_of_pair : {r : Row} (rows : List ℕ) (i : ℕ) → r ≡ row_of (λ k. get_or rows (i * 8 + k) 0) → RowIs r (lane_of rows i)
 unfolding lane_of

@@ -38,11 +38,11 @@ module _ (op f : ℕ → ℕ → ℕ) (g : Bool → Bool → Bool) (shr : (a b k
   bit_each : (a b j : ℕ) → bit (op a b) j ≡ g (bit a j) (bit b j)
   bit_each a b j = ap odd (shr a b j) ∙ odd_each (a / 2 ^ j) (b / 2 ^ j)
 
-pub bit_and : (a b j : ℕ) → bit (bit_and a b) j ≡ (bit a j && bit b j)
-bit_and = bit_each bit_and min ◌&&◌ and_shr and_step refl
+pub bit_of_and : (a b j : ℕ) → bit (bit_and a b) j ≡ (bit a j && bit b j)
+bit_of_and = bit_each bit_and min ◌&&◌ and_shr and_step refl
 
-pub bit_or : (a b j : ℕ) → bit (bit_or a b) j ≡ (bit a j || bit b j)
-bit_or = bit_each bit_or max ◌||◌ or_shr or_step refl
+pub bit_of_or : (a b j : ℕ) → bit (bit_or a b) j ≡ (bit a j || bit b j)
+bit_of_or = bit_each bit_or max ◌||◌ or_shr or_step refl
 
 -- the constant words
 abbrev pub ones : ℕ
@@ -54,8 +54,8 @@ bit_ones = below_at (bit ones) 64 refl
 pub bit_none : (j : ℕ) → bit 0 j ≡ false
 bit_none j = ap odd (zero-div (2 ^ j))
 
-pub bit_not : (a j : ℕ) → j < 64 → bit (bit_xor a ones) j ≡ not (bit a j)
-bit_not a j h =
+pub bit_of_not : (a j : ℕ) → j < 64 → bit (bit_xor a ones) j ≡ not (bit a j)
+bit_of_not a j h =
     bit_each bit_xor differ (λ x y. cond y (not x) x) xor_shr xor_step refl a ones j
     ∙ ap (λ y. cond y (not (bit a j)) (bit a j)) (bit_ones j h)
 
@@ -99,8 +99,8 @@ module _ (w i j : ℕ) (g : j < 64) where
   bit_high h = let e : (64 * w + j) / 64 ≡ w = omega arith in bit_div (64 * w + j) 6 i h ∙ ap (λ x. bit x (i - 6)) e
 
 module _ (w i : ℕ) where
-  pub pair_low : i < 6 → PairWord w i (get_or low i 0)
-  pair_low h = record { pattern = λ j g. low_bit i j h g ∙ sym (bit_low w i j g h) }
+  pub pair_low : {x : ℕ} → x ≡ get_or low i 0 → i < 6 → PairWord w i x
+  pair_low e h = record { pattern = λ j g. ap (λ x. bit x j) e ∙ low_bit i j h g ∙ sym (bit_low w i j g h) }
 
   pub pair_ones : 6 ≤ i → w / 2 ^ (i - 6) % 2 ≡ 1 → PairWord w i ones
   pair_ones h e = record { pattern = λ j g. bit_ones j g ∙ sym (bit_high w i j g h ∙ eq-eqb _ _ e) }

@@ -104,6 +104,7 @@ fn either_target(left: TargetRow, right: TargetRow) -> TargetRow
 }
 
 // The target at `at`, of at most `left` nodes.
+#[tactic(auto, using(crate::proofs::Judged::atom_judged, crate::proofs::Judged::not_judged, crate::proofs::Judged::default_judged, crate::proofs::Judged::or_judged))]
 fn judge_target(file: &[u8], at: usize, left: usize, pairs: &[u32], rows: &[u64; 128]) -> TargetRow
     requires { Has target file.now at left × (length pairs.now ≤ 16) }
     ensures { TargetRows file.now at pairs.now rows.now result × Apart result }
@@ -221,6 +222,7 @@ fn either(left: PolicyRow, right: PolicyRow) -> PolicyRow
 }
 
 // The policy at `at`, of at most `left` nodes.
+#[tactic(auto, using(crate::proofs::Judged::targeted_judged, crate::proofs::Judged::policy_not_judged, crate::proofs::Judged::policy_or_judged))]
 fn judge_policy(file: &[u8], at: usize, left: usize, pairs: &[u32], rows: &[u64; 128]) -> PolicyRow
     requires { Has policy file.now at left × (length pairs.now ≤ 16) }
     ensures { PolicyRows file.now at pairs.now rows.now result }
@@ -273,6 +275,7 @@ fn only_allow(set: PolicyRow) -> Row
 }
 
 // Which of the 512 subsets whose pairs these rows give are allowed.
+#[tactic(auto, using(files::proofs::View::body_has, crate::proofs::Judged::allowed_judged))]
 pub fn judge(body: &[u8], pairs: &[u32], rows: &[u64; 128], w: usize) -> Row
     requires { Encoded body.now × (length pairs.now ≤ 16) × PairRows (length pairs.now) w rows.now }
     ensures { AllowedRow strict body.now pairs.now w result }

@@ -1,4 +1,6 @@
 // The table of allowed subsets of a policy's pairs, judged 512 at a time as they are needed: a request to each bit of eight words.
+#![tactic(auto)]
+
 ghost use Rattle.std.specs.Prelude.{◌≡◌, ◌+◌, ◌*◌, ◌<◌, ◌≤◌, length};
 ghost use Rattle.ptacl.specs.Exposure.{bit, strict};
 ghost use Rattle.files.specs.Places.{Encoded};
@@ -21,6 +23,7 @@ const LOW: [u64; 6] = [
 ];
 
 // Which of the subsets from 64 * w on hold pair i.
+#[tactic(auto, using(crate::proofs::Words::pair_low, crate::proofs::Words::pair_ones, crate::proofs::Words::pair_none))]
 pub fn holding(w: usize, i: usize) -> u64
     requires { i < 16 }
     ensures { PairWord w i result }
@@ -74,6 +77,7 @@ fn put_row(rows: &mut [u64], at: usize, row: Row)
 }
 
 // The rows of so many pairs for the subsets from 512 * w on.
+#[tactic(auto, using(crate::proofs::Filled::pairs_more))]
 fn pair_rows(rows: &mut [u64; 128], count: usize, w: usize)
     requires { (length rows.old ≡ 128) × (count ≤ 16) × (w < 128) }
     ensures { PairRows count w rows.new }
@@ -86,6 +90,7 @@ fn pair_rows(rows: &mut [u64; 128], count: usize, w: usize)
 }
 
 // Row w, a bit for each of its subsets of the pairs: whether it is allowed.
+#[tactic(auto, using(crate::proofs::Filled::filled_more))]
 pub fn fill_row(body: &[u8], pairs: &[u32], table: &mut [u64], w: usize)
     requires { Encoded body.now × (length pairs.now ≤ 16) × (w < 128) × (w * 8 + 8 ≤ length table.old)
         × Filled strict body.now pairs.now table.old w }
@@ -98,6 +103,7 @@ pub fn fill_row(body: &[u8], pairs: &[u32], table: &mut [u64], w: usize)
 }
 
 // Whether the subset m is allowed.
+#[tactic(auto, unfolding(crate::specs::Allowed::bit_at))]
 pub fn entry(table: &[u64], m: usize) -> bool
     requires { m < 64 * length table.now }
     ensures { result ≡ bit_at table.now m }

@@ -5,7 +5,7 @@ ghost use Rattle.table.specs.Rows.{lane, RowIs};
 
 pub const ONES: u64 = 0xFFFF_FFFF_FFFF_FFFF;
 
-#[derive(Drop)]
+#[derive(Clone, Copy)]
 pub struct Row {
     pub w0: u64,
     pub w1: u64,

@@ -1,0 +1,5 @@
+-- The cycle {judge_policy}, by the number of nodes left.
+use Rattle.table.proofs.judge.+judge_policy.Given as goal
+
+abbrev pub decreases-judge_policy : goal.decreases-judge_policy
+decreases-judge_policy l = l.left
