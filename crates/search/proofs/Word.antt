@@ -13,7 +13,7 @@ use Rattle.ptacl.proofs.Bools.{either, clash}
 use Rattle.ptacl.proofs.Bits.{bit_le, bit_below}
 use Rattle.table.specs.Allowed.{bit_at}
 use Rattle.table.specs.Rows.{PairWord}
-use Rattle.table.proofs.Words.{ones, bit_and, bit_not, bit_none, bit_mod, bit_div, bit_low, bit_high}
+use Rattle.table.proofs.Words.{ones, bit_of_and, bit_of_not, bit_none, bit_mod, bit_div, bit_low, bit_high}
 use Rattle.search.specs.Hits.{HitAt, LessWord, HitWord, QuietIf}
 
 -- a hit takes one of the k pairs
@@ -58,8 +58,8 @@ module _ (t : List ℕ) (w i : ℕ) where
     lane = λ j g.
         let m = 64 * w + j in
         let here : bit (get_or t w 0) j ≡ bit_at t m = sym (entry_at t m w j (omega arith) (omega arith)) in
-        bit_and (bit_and p x) (bit_xor (get_or t w 0) ones) j
-        ∙ rw (bit_and p x j, bit_not (get_or t w 0) j g, k.pattern j g, here) (either (bit m i) (λ b. rw (b, l.lane j g b)) (λ b. rw b));
+        bit_of_and (bit_and p x) (bit_xor (get_or t w 0) ones) j
+        ∙ rw (bit_of_and p x j, bit_of_not (get_or t w 0) j g, k.pattern j g, here) (either (bit m i) (λ b. rw (b, l.lane j g b)) (λ b. rw b));
   }
 
 -- no exposure of the 64 subsets at a pair before i

@@ -1,4 +1,6 @@
 // The first exposure of a policy of at most 16 pairs.
+#![tactic(auto)]
+
 ghost use Rattle.std.specs.Prelude.{◌≡◌, map, ◌^◌, ◌<◌, ◌≤◌, length};
 ghost use Rattle.ptacl.specs.Exposure.{subset, one_pair};
 ghost use Rattle.ptacl.specs.Pairs.{unpacked};
@@ -29,6 +31,7 @@ fn pow2(k: usize) -> usize
 }
 
 // For each of the 64 subsets from 64 * w on that hold pair i: whether the subset without it is allowed.
+#[tactic(auto, using(crate::proofs::Word::less_low, crate::proofs::Word::less_high, crate::proofs::Word::less_none))]
 fn less(allowed: &[u64], w: usize, i: usize) -> u64
     requires { (w < length allowed.now) × (i < 16) }
     ensures { LessWord allowed.now one_pair w i result }
@@ -42,6 +45,7 @@ fn less(allowed: &[u64], w: usize, i: usize) -> u64
 }
 
 // Which of these subsets m are an exposure (m, i).
+#[tactic(auto, using(crate::proofs::Word::hits_law))]
 fn hits(allowed: &[u64], w: usize, i: usize) -> u64
     requires { (w < length allowed.now) × (i < 16) }
     ensures { HitWord allowed.now one_pair w i result }
@@ -50,6 +54,7 @@ fn hits(allowed: &[u64], w: usize, i: usize) -> u64
 }
 
 // Whether none of them is an exposure: then the search need not look at each.
+#[tactic(auto, using(crate::proofs::Word::quiet_start, crate::proofs::Word::quiet_more, crate::proofs::Word::quiet_end, crate::proofs::Word::not_quiet))]
 fn is_quiet(allowed: &[u64], w: usize, k: usize) -> bool
     requires { (w < length allowed.now) × (k ≤ 16) }
     ensures { QuietIf allowed.now one_pair k w result }
@@ -66,6 +71,7 @@ fn is_quiet(allowed: &[u64], w: usize, k: usize) -> bool
 
 // The smallest m of an exposure, and for it the smallest i. The next 512 subsets are judged when the first of them is
 // met, in a table that has room for all.
+#[tactic(auto, using(ptacl::proofs::Bits::bit_le, crate::proofs::Steps::at_start, crate::proofs::Steps::searching_start, crate::proofs::Steps::row_due))]
 fn find_in(body: &[u8], pairs: &[u32], allowed: &mut [u64]) -> Hit
     requires { Encoded body.now × (length pairs.now ≤ 16) × Room (length pairs.now) allowed.old }
     ensures { FindsIn body.now pairs.now result }
@@ -115,6 +121,7 @@ pub fn find(body: &[u8], pairs: &[u32]) -> Hit
 }
 
 // The pairs of the subset numbered m, at the front of `out`: how many there are.
+#[tactic(auto, using(crate::proofs::Chosen::chosen_start, crate::proofs::Chosen::chosen_with, crate::proofs::Chosen::chosen_without, crate::proofs::Chosen::chosen_end))]
 fn choose(pairs: &[u32], m: usize, out: &mut [u32]) -> usize
     requires { length pairs.now ≤ length out.old }
     ensures { (result ≡ length (subset pairs.now m))
@@ -135,6 +142,7 @@ fn choose(pairs: &[u32], m: usize, out: &mut [u32]) -> usize
 }
 
 // The files of two subsets, the larger straight behind the smaller: how many bytes they have.
+#[tactic(auto, using(crate::proofs::Chosen::subset_most, crate::proofs::Files::take_front, crate::proofs::Files::two_length))]
 fn write_subsets(pairs: &[u32], smaller: usize, larger: usize, space: &mut [u8]) -> usize
     requires { (length pairs.now ≤ 16) × (length (two_files (map unpacked pairs.now) smaller larger) ≤ length space.old) }
     ensures { (result ≡ length (two_files (map unpacked pairs.now) smaller larger))
@@ -148,6 +156,7 @@ fn write_subsets(pairs: &[u32], smaller: usize, larger: usize, space: &mut [u8])
 }
 
 // Searches a policy that was read, with its pairs; the files of an exposure go into the space.
+#[tactic(auto, using(ptacl::proofs::Bits::bit_le, crate::proofs::Steps::exposed_pair, crate::proofs::Files::exposure_length, crate::proofs::Answer::found_hit, crate::proofs::Answer::none_found, crate::proofs::Answer::first_found))]
 pub fn search(body: &[u8], pairs: &[u32], space: &mut [u8]) -> Verdict
     requires { Encoded body.now × (length pairs.now ≤ 16) × (130 ≤ length space.old) }
     ensures { FoundIn body.now pairs.now space.old result space.new }
