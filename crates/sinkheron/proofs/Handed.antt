@@ -22,10 +22,10 @@ use Rattle.files.proofs.Memory.{over_front}
 use Rattle.files.proofs.Limits.{subset_fits, normal_fits, fits_file}
 use Rattle.search.specs.Found.{two_files, exposure_files}
 use Rattle.sinkheron.specs.Answer.{Answer, success, value}
-use Rattle.sinkheron.specs.Ways.{holding, the, passes, gives}
+use Rattle.sinkheron.specs.Ways.{Writes, holding, the, passes, gives}
 use Rattle.sinkheron.specs.Decide.{Decides}
 use Rattle.sinkheron.specs.NormalForm.{Normalises}
-use Rattle.sinkheron.specs.Search.{Values, Searches, is_resistant, is_exposed}
+use Rattle.sinkheron.specs.Search.{Values, Judges, Searches, is_resistant, is_exposed}
 use Rattle.sinkheron.specs.Handed.{Handed, ReadBack}
 use Rattle.sinkheron.proofs.DecideOne.{decide_same}
 
@@ -60,14 +60,16 @@ module _ {policy : List ℕ} {p : Policy} {ps : List Pair} {m i : ℕ} (f : IsPo
 
 -- the theorem: an exposed answer hands over two such files
 pub exposure_handed : {policy before after : List ℕ} {v : Values} → Searches policy before (success v) after → v.verdict ≡ 1 → Handed policy after v.bytes
-exposure_handed (holding f (the h (passes l (passes k (is_resistant r))))) z = absurd (omega arith)
-exposure_handed (holding f (the h (passes l (passes k (is_exposed e))))) z = handed f h e.hit _
+exposure_handed {policy} {before} (holding {f = p} f (the {t = ps} h (passes l (passes k j)))) = judged j
+  where
+    judged : {v : Values} {after : List ℕ} → Judges p ps before (success v) after → v.verdict ≡ 1 → Handed policy after v.bytes
+    judged (is_resistant r) z = absurd (omega arith)
+    judged (is_exposed e) z = handed f h e.hit _
 
 -- the normal form's bytes are a request file within the limits, and decide answers for it as for the request
 pub normal_form_read : {policy request before after : List ℕ} {k : ℕ} → Normalises policy request before (success k) after
     → ReadBack policy request (take k after)
-normal_form_read {policy} {request} {before} (holding {f = p} f (holding {f = q} g (the {t = r} n (passes l gives)))) =
-    rw (over_front (request_file r) before) (record { normal = r; file = file; same = same })
+normal_form_read {policy} {request} {before} (holding {f = p} f (holding {f = q} g (the {t = r} n w))) = written w
   where
     file : IsRequest (request_file r) r
     file = fits_file (normal_fits f.fits n)
@@ -75,3 +77,6 @@ normal_form_read {policy} {request} {before} (holding {f = p} f (holding {f = q}
     same : (x : Answer ℕ) → Decides policy request x tt → Decides policy (request_file r) x tt
     same x d =
         subst (λ z. Decides policy (request_file r) z tt) (ap (λ v. success (code v)) (eval_normal p n) ∙ decided_only f g d) (decided f file)
+
+    written : {k : ℕ} {after : List ℕ} → Writes (request_file r) before (success k) after → ReadBack policy request (take k after)
+    written (passes l gives) = rw (over_front (request_file r) before) (record { normal = r; file = file; same = same })

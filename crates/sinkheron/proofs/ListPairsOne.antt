@@ -9,7 +9,7 @@ use Rattle.ptacl.proofs.Pairs.{pairs_unique}
 use Rattle.files.specs.Encoding.{Bytes}
 use Rattle.sinkheron.specs.declared.Listing.{Listing}
 use Rattle.sinkheron.specs.Answer.{Answer, refusal, success, OneOutcome}
-use Rattle.sinkheron.specs.Ways.{holding, the, passes, gives}
+use Rattle.sinkheron.specs.Ways.{Writes, holding, the, passes, gives}
 use Rattle.sinkheron.specs.ListPairs.{answer_of, Lists}
 use Rattle.sinkheron.proofs.Ranges.{list_pairs_ranged}
 use Rattle.sinkheron.proofs.OneOutcome.{one_outcome, policy_one, the_one, refused_if_one, gives_one}
@@ -27,4 +27,7 @@ list_pairs_one b = one_outcome back its (policy_one (λ p. the_one (λ t u h k. 
 
 -- the list has no more pairs than the slice that was lent for it
 pub listed_fits : {policy before after : List ℕ} {k : ℕ} → Lists policy before (success k) after → k ≤ length before
-listed_fits {before = before} (holding p (the {t = ps} h (passes l gives))) = ltb-false (length before) (length (map packed ps)) l
+listed_fits {before = before} (holding p (the {t = ps} h w)) = written w
+  where
+    written : {k : ℕ} {after : List ℕ} → Writes (map packed ps) before (success k) after → k ≤ length before
+    written (passes l gives) = ltb-false (length before) (length (map packed ps)) l

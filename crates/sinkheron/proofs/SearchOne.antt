@@ -45,9 +45,11 @@ search_one b =
 -- demand 3: where there is no refusal, resistant exactly as defined
 pub verdict_means : {policy before after : List ℕ} {v : Values} {p : Policy} → IsPolicy policy p → Searches policy before (success v) after
     → (v.verdict ≡ 0) ↔ Resistant p
-verdict_means f (holding g (the h (passes l (passes k (is_resistant r))))) = (λ e. subst Resistant (policy_read_one g f) r, λ k. refl)
-verdict_means f (holding g (the h (passes l (passes k (is_exposed e))))) =
-    (λ e. absurd (omega arith), λ r. absurd (unexposed (subst Resistant (policy_read_one f g) r) e.hit))
+verdict_means {before = before} {p = p} f (holding {f = p'} g (the {t = ps} h (passes l (passes k j)))) = judged j
+  where
+    judged : {v : Values} {after : List ℕ} → Judges p' ps before (success v) after → (v.verdict ≡ 0) ↔ Resistant p
+    judged (is_resistant r) = (λ e. subst Resistant (policy_read_one g f) r, λ k. refl)
+    judged (is_exposed e) = (λ e. absurd (omega arith), λ r. absurd (unexposed (subst Resistant (policy_read_one f g) r) e.hit))
 
 -- document 02, C-13: whatever a search may answer and leave in the space for a policy, it may for the policy with every or spelled out
 pub spelled_judged : {p : Policy} {ps : List Pair} {before after : List ℕ} {a : Answer Values}

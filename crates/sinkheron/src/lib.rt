@@ -1,5 +1,7 @@
 // Sinkheron: whether a batch may be released, and whether leaving a fact out of a request can open a release.
 // Every operation answers for every input; a refusal alters no lent memory.
+#![tactic(auto)]
+
 ghost use Rattle.std.specs.Prelude.{◌≡◌};
 ghost use Rattle.files.specs.ReadPolicy.{read_policy};
 ghost use Rattle.files.specs.ReadRequest.{read_request};
@@ -20,8 +22,6 @@ use flat::read::FlatRead;
 use ptacl::DecisionSet;
 use search::Verdict;
 use text::convert::Parsed;
-
-pub mod face;
 
 #[derive(Drop)]
 pub enum Decision {
@@ -85,6 +85,7 @@ fn read_files(policy: &[u8], request: &[u8]) -> FilesRead
 }
 
 // The answer for the set that a policy comes to.
+#[tactic(auto, using(crate::proofs::Written::empty_refused, crate::proofs::Written::set_given))]
 fn decided(set: DecisionSet) -> Decision
     ensures { D.OfSet set.code (D.answer_of result) tt }
 {
@@ -98,6 +99,7 @@ fn decided(set: DecisionSet) -> Decision
 }
 
 // What the policy comes to for the request. Only allow alone, the set's code 1, releases.
+#[tactic(auto, using(crate::proofs::Taken::policy_unread, crate::proofs::Taken::policy_taken, crate::proofs::Taken::request_taken, crate::proofs::Taken::request_ordered, crate::proofs::Written::request_refuses, crate::proofs::Written::set_answers))]
 pub fn decide(policy: &[u8], request: &[u8]) -> Decision
     ensures { D.Decides policy.now request.now (D.answer_of result) tt }
 {
@@ -115,6 +117,7 @@ pub fn decide(policy: &[u8], request: &[u8]) -> Decision
 }
 
 // The same without calls that nest: one loop reads the policy, another evaluates it.
+#[tactic(auto, using(crate::proofs::Taken::policy_unread, crate::proofs::Taken::policy_taken, crate::proofs::Taken::places_noted, crate::proofs::Taken::request_taken, crate::proofs::Taken::request_ordered, crate::proofs::Written::request_refuses, crate::proofs::Written::set_answers))]
 pub fn decide_flat(policy: &[u8], request: &[u8]) -> Decision
     ensures { D.Decides policy.now request.now (D.answer_of result) tt }
 {
@@ -129,6 +132,7 @@ pub fn decide_flat(policy: &[u8], request: &[u8]) -> Decision
 }
 
 // The policy's pairs at the front of `pairs`, each name * 65536 + value.
+#[tactic(auto, using(files::proofs::View::body_encoded, crate::proofs::Taken::policy_unread, crate::proofs::Taken::policy_taken, crate::proofs::Written::pairs_fit, crate::proofs::Written::pairs_counted, crate::proofs::Written::list_too_long, crate::proofs::Written::list_written))]
 pub fn list_pairs(policy: &[u8], pairs: &mut [u32]) -> Listing
     ensures { L.Lists policy.now pairs.old (L.answer_of result) pairs.new }
 {
@@ -149,6 +153,7 @@ pub fn list_pairs(policy: &[u8], pairs: &mut [u32]) -> Listing
 }
 
 // The normal form of a request, as a request file at the front of `space`.
+#[tactic(auto, using(files::proofs::View::body_encoded, crate::proofs::Written::form_unread, crate::proofs::Taken::files_policy, crate::proofs::Taken::files_request, crate::proofs::Taken::files_ordered, crate::proofs::Written::form_few, crate::proofs::Written::form_fits, crate::proofs::Written::form_counted, crate::proofs::Written::file_too_long, crate::proofs::Written::file_written))]
 pub fn normal_form(policy: &[u8], request: &[u8], space: &mut [u8]) -> Output
     ensures { N.Normalises policy.now request.now space.old (O.answer_of result) space.new }
 {
@@ -189,6 +194,7 @@ fn hand_over(converted: Parsed, made: &[u8], space: &mut [u8]) -> Output
 }
 
 // The policy file of the line that `text` is.
+#[tactic(auto, using(crate::proofs::Texts::given_made, crate::proofs::Texts::line_handed_over))]
 pub fn read_text(text: &[u8], space: &mut [u8]) -> Output
     ensures { R.ReadsText text.now space.old (O.answer_of result) space.new }
 {
@@ -198,6 +204,7 @@ pub fn read_text(text: &[u8], space: &mut [u8]) -> Output
 }
 
 // The line of the policy.
+#[tactic(auto, using(crate::proofs::Texts::given_made, crate::proofs::Texts::file_handed_over))]
 pub fn write_text(policy: &[u8], space: &mut [u8]) -> Output
     ensures { W.WritesText policy.now space.old (O.answer_of result) space.new }
 {
@@ -207,6 +214,7 @@ pub fn write_text(policy: &[u8], space: &mut [u8]) -> Output
 }
 
 // The smallest number of a structural rule that applies to the policy, or 0.
+#[tactic(auto, using(files::proofs::View::body_encoded, files::proofs::View::body_has, crate::proofs::Taken::policy_unread, crate::proofs::Taken::policy_taken, crate::proofs::Written::rule_answers))]
 pub fn certify(policy: &[u8]) -> Certified
     ensures { C.Certifies policy.now (C.answer_of result) tt }
 {
@@ -221,6 +229,7 @@ pub fn certify(policy: &[u8]) -> Certified
 }
 
 // The first exposure of a policy of at most 16 pairs, its two request files at the front of `space`; or that it is resistant.
+#[tactic(auto, using(files::proofs::View::body_encoded, crate::proofs::Taken::policy_unread, crate::proofs::Taken::policy_taken, crate::proofs::Written::pairs_fit, crate::proofs::Written::pairs_counted, crate::proofs::Written::too_many, crate::proofs::Written::no_room, crate::proofs::Written::searched_resistant, crate::proofs::Written::searched_exposed))]
 pub fn search(policy: &[u8], space: &mut [u8]) -> Searched
     ensures { S.Searches policy.now space.old (S.answer_of result) space.new }
 {

@@ -10,7 +10,7 @@ ghost use Rattle.sinkheron.specs.Certify as C;
 ghost use Rattle.sinkheron.specs.Search as S;
 ghost use Rattle.sinkheron.specs.Answer.{place, word, Says};
 
-use crate::{Certified, Decision, Listing, Output, Searched};
+use sinkheron::{Certified, Decision, Listing, Output, Searched};
 
 // A refusal's number and place.
 fn refusal(number: u8, place: usize) -> u64
@@ -53,25 +53,27 @@ fn exposure(pairs: usize, bytes: usize, m: usize, i: usize) -> u64
         + i as u64 * 281474976710656
 }
 
+#[tactic(auto, using(files::proofs::Framing::lent_bytes, sinkheron::proofs::Ranges::decide_ranged, sinkheron::proofs::Ranges::place_small))]
 #[unsafe(no_mangle)]
 pub extern "C" fn sinkheron_decide(policy: &[u8], request: &[u8]) -> u64
     ensures { Says D.answer_of D.bits (D.Decides policy.now request.now) result tt }
 {
-    decision(crate::decide(policy, request))
+    decision(sinkheron::decide(policy, request))
 }
 
+#[tactic(auto, using(files::proofs::Framing::lent_bytes, sinkheron::proofs::Ranges::decide_ranged, sinkheron::proofs::Ranges::place_small))]
 #[unsafe(no_mangle)]
 pub extern "C" fn sinkheron_decide_flat(policy: &[u8], request: &[u8]) -> u64
     ensures { Says D.answer_of D.bits (D.Decides policy.now request.now) result tt }
 {
-    decision(crate::decide_flat(policy, request))
+    decision(sinkheron::decide_flat(policy, request))
 }
 
 #[unsafe(no_mangle)]
 pub extern "C" fn sinkheron_list_pairs(policy: &[u8], pairs: &mut [u32]) -> u64
     ensures { Says L.answer_of L.bits (L.Lists policy.now pairs.old) result pairs.new }
 {
-    match crate::list_pairs(policy, pairs) {
+    match sinkheron::list_pairs(policy, pairs) {
         Listing::Refused { number, place } => refusal(number, place),
         Listing::Listed { pairs: count } => count as u64 * 65536,
     }
@@ -81,28 +83,28 @@ pub extern "C" fn sinkheron_list_pairs(policy: &[u8], pairs: &mut [u32]) -> u64
 pub extern "C" fn sinkheron_normal_form(policy: &[u8], request: &[u8], space: &mut [u8]) -> u64
     ensures { Says O.answer_of O.bits (N.Normalises policy.now request.now space.old) result space.new }
 {
-    output(crate::normal_form(policy, request, space))
+    output(sinkheron::normal_form(policy, request, space))
 }
 
 #[unsafe(no_mangle)]
 pub extern "C" fn sinkheron_read_text(text: &[u8], space: &mut [u8]) -> u64
     ensures { Says O.answer_of O.bits (R.ReadsText text.now space.old) result space.new }
 {
-    output(crate::read_text(text, space))
+    output(sinkheron::read_text(text, space))
 }
 
 #[unsafe(no_mangle)]
 pub extern "C" fn sinkheron_write_text(policy: &[u8], space: &mut [u8]) -> u64
     ensures { Says O.answer_of O.bits (W.WritesText policy.now space.old) result space.new }
 {
-    output(crate::write_text(policy, space))
+    output(sinkheron::write_text(policy, space))
 }
 
 #[unsafe(no_mangle)]
 pub extern "C" fn sinkheron_certify(policy: &[u8]) -> u64
     ensures { Says C.answer_of C.bits (C.Certifies policy.now) result tt }
 {
-    match crate::certify(policy) {
+    match sinkheron::certify(policy) {
         Certified::Refused { number, place } => refusal(number, place),
         Certified::By { rule } => rule as u64 * 4096,
     }
@@ -112,7 +114,7 @@ pub extern "C" fn sinkheron_certify(policy: &[u8]) -> u64
 pub extern "C" fn sinkheron_search(policy: &[u8], space: &mut [u8]) -> u64
     ensures { Says S.answer_of S.bits (S.Searches policy.now space.old) result space.new }
 {
-    match crate::search(policy, space) {
+    match sinkheron::search(policy, space) {
         Searched::Refused { number, place } => refusal(number, place),
         Searched::Resistant { pairs } => pairs as u64 * 65536,
         Searched::Exposed { pairs, m, i, bytes } => exposure(pairs, bytes, m, i),
