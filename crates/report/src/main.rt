@@ -1,35 +1,35 @@
 // The report on a policy file, which it reads from standard input: the policy's pairs, its certificate, and what the search finds.
-ghost use Rattle.std.specs.Prelude.{◌<◌};
+#![tactic(auto)]
 
-use libc::{STDIN_FILENO, STDOUT_FILENO};
+ghost use Rattle.std.specs.Prelude.{◌<◌, ◌≤◌, length, IfOk};
+
 use sinkheron::{Certified, Listing, Searched};
+use std::io;
+use std::io::Read;
 
-fn say(text: &[u8]) {
-    io::write_all(STDOUT_FILENO, text);
+fn say(rt: &impl Print, text: &str) -> io::Result<()> {
+    print!(rt; "{text}")
 }
 
-fn say_number(n: u64) {
-    io::print_decimal(STDOUT_FILENO, n);
+fn say_number(rt: &impl Print, n: u64) -> io::Result<()> {
+    print!(rt; "{n}")
 }
 
-fn refusal_line(number: u8, place: usize) {
-    say(b"refused ");
-    say_number(number as u64);
-    say(b" at ");
-    say_number(place as u64);
-    say(b"\n");
+fn refusal_line(rt: &impl Print, number: u8, place: usize) -> io::Result<()> {
+    say(rt, "refused ")?;
+    say_number(rt, number as u64)?;
+    say(rt, " at ")?;
+    say_number(rt, place as u64)?;
+    say(rt, "\n")
 }
 
 // The smallest value of the name that is not on the list, which ascends.
 fn unlisted(list: &[u32], name: u32) -> u32 {
     let mut value = 0;
-    let mut i = 0;
-    while i < list.len() {
-        let pair = list[i];
-        if pair / 65536 == name && pair % 65536 == value {
+    for pair in list {
+        if *pair / 65536 == name && *pair % 65536 == value {
             value += 1;
         }
-        i += 1;
     }
     value
 }
@@ -59,86 +59,99 @@ fn fresh_value(policy: &[u8], list: &[u32], name: u32) -> u32 {
     wide(file[5]) * 256 + wide(file[6])
 }
 
-fn pair_line(i: usize, name: u32, value: u32, fresh: u32) {
-    say(b"pair ");
-    say_number(i as u64);
-    say(b" ");
-    say_number(name as u64);
-    say(b" ");
-    say_number(value as u64);
+fn pair_line(rt: &impl Print, i: usize, name: u32, value: u32, fresh: u32) -> io::Result<()> {
+    say(rt, "pair ")?;
+    say_number(rt, i as u64)?;
+    say(rt, " ")?;
+    say_number(rt, name as u64)?;
+    say(rt, " ")?;
+    say_number(rt, value as u64)?;
     if value == fresh {
-        say(b" fresh\n");
+        say(rt, " fresh\n")
     } else {
-        say(b" named\n");
+        say(rt, " named\n")
     }
 }
 
-fn pair_lines(policy: &[u8], list: &[u32]) {
-    let mut i = 0;
-    while i < list.len() {
-        let pair = list[i];
-        let name = pair / 65536;
-        pair_line(i, name, pair % 65536, fresh_value(policy, list, name));
-        i += 1;
+fn pair_lines(rt: &impl Print, policy: &[u8], list: &[u32]) -> io::Result<()> {
+    for (i, pair) in list.iter().enumerate() {
+        let name = *pair / 65536;
+        pair_line(rt, i, name, *pair % 65536, fresh_value(policy, list, name))?;
     }
+    Ok(())
 }
 
-fn certificate_line(policy: &[u8]) {
+fn certificate_line(rt: &impl Print, policy: &[u8]) -> io::Result<()> {
     match sinkheron::certify(policy) {
-        Certified::Refused { number, place } => refusal_line(number, place),
+        Certified::Refused { number, place } => refusal_line(rt, number, place),
         Certified::By { rule } => {
-            say(b"certificate ");
-            say_number(rule as u64);
-            say(b"\n");
+            say(rt, "certificate ")?;
+            say_number(rt, rule as u64)?;
+            say(rt, "\n")
         }
     }
 }
 
-fn verdict_line(policy: &[u8]) {
+fn verdict_line(rt: &impl Print, policy: &[u8]) -> io::Result<()> {
     let mut space = [0u8; 130];
     match sinkheron::search(policy, &mut space) {
-        Searched::Refused { number, place } => refusal_line(number, place),
-        Searched::Resistant { pairs: _ } => say(b"resistant\n"),
+        Searched::Refused { number, place } => refusal_line(rt, number, place),
+        Searched::Resistant { pairs: _ } => say(rt, "resistant\n"),
         Searched::Exposed {
             pairs: _,
             m,
             i,
             bytes: _,
         } => {
-            say(b"exposed ");
-            say_number(m as u64);
-            say(b" hides ");
-            say_number(i as u64);
-            say(b"\n");
+            say(rt, "exposed ")?;
+            say_number(rt, m as u64)?;
+            say(rt, " hides ")?;
+            say_number(rt, i as u64)?;
+            say(rt, "\n")
         }
     }
 }
 
 // The whole report on a policy that was read, whose pairs these are.
-fn report_on(policy: &[u8], list: &[u32]) {
-    say(b"pairs ");
-    say_number(list.len() as u64);
-    say(b"\n");
-    pair_lines(policy, list);
-    certificate_line(policy);
-    verdict_line(policy);
+fn report_on(rt: &impl Print, policy: &[u8], list: &[u32]) -> io::Result<()> {
+    say(rt, "pairs ")?;
+    say_number(rt, list.len() as u64)?;
+    say(rt, "\n")?;
+    pair_lines(rt, policy, list)?;
+    certificate_line(rt, policy)?;
+    verdict_line(rt, policy)
 }
 
-fn report(policy: &[u8]) {
+fn report(rt: &impl Print, policy: &[u8]) -> io::Result<()> {
     let mut pairs = [0u32; 254];
     match sinkheron::list_pairs(policy, &mut pairs) {
-        Listing::Refused { number, place } => refusal_line(number, place),
-        Listing::Listed { pairs: count } => report_on(policy, &pairs[..count]),
+        Listing::Refused { number, place } => refusal_line(rt, number, place),
+        Listing::Listed { pairs: count } => report_on(rt, policy, &pairs[..count]),
     }
 }
 
-fn main() {
+// Reads until the buffer is full or the input ends, and answers how many bytes there are at the buffer's front.
+fn read_full(input: &mut impl Read, buffer: &mut [u8]) -> io::Result<usize>
+    ensures { IfOk result (λ n. n ≤ length buffer.new) }
+{
+    let mut done = 0;
+    while done < buffer.len() {
+        let n = input.read(&mut buffer[done..])?;
+        if n == 0 {
+            break;
+        }
+        done += n;
+    }
+    Ok(done)
+}
+
+fn main(rt: HostRuntime) -> io::Result<()> {
     // One byte more than is taken, so that an input over 4,096 bytes shows.
     let mut input = [0u8; 4097];
-    let n = io::read_full(STDIN_FILENO, &mut input);
+    let n = read_full(&mut rt.reader(), &mut input)?;
     if n > 4096 {
-        say(b"too long\n");
+        say(&rt, "too long\n")
     } else {
-        report(&input[..n]);
+        report(&rt, &input[..n])
     }
 }
