@@ -1,7 +1,7 @@
 // An answer in document 01's numbers, whoever gives it. What an operation does not answer is 0. Whether it is a refusal is kept
 // beside the number, so that a refusal with number 0 is no answer.
 
-#[derive(Drop)]
+#[derive(Clone, Copy)]
 pub struct Answer {
     pub refusal: bool,
     pub number: usize,

@@ -21,7 +21,7 @@ pub const READ_TEXT: usize = 7;
 pub const WRITE_TEXT: usize = 8;
 
 // How much memory is lent to an operation, and the byte of which it is full.
-#[derive(Drop)]
+#[derive(Clone, Copy)]
 pub struct Rooms {
     pub list: usize,
     pub normal: usize,
@@ -29,7 +29,7 @@ pub struct Rooms {
     pub fill: u8,
 }
 
-#[derive(Drop)]
+#[derive(Clone, Copy)]
 pub struct Case {
     pub policy: File,
     pub request: File,

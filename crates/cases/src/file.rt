@@ -1,7 +1,7 @@
 // Files under construction, of at most 2,048 bytes.
 use crate::arrays::{Bytes, set_byte};
 
-#[derive(Drop)]
+#[derive(Clone, Copy)]
 pub struct File {
     pub bytes: Bytes,
     pub len: usize,

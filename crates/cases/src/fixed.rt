@@ -5,7 +5,7 @@ use crate::arrays::{Bytes, at, char_at, get_byte, plus};
 use crate::compare::{Case, Rooms};
 use crate::file::File;
 use crate::tally::Tally;
-use crate::{answer, compare, file, forms, tally, text};
+use crate::{answer, compare, file, forms, lines, tally};
 
 fn operation_of(letter: u8) -> usize {
     match letter {
@@ -32,7 +32,7 @@ fn rooms_of(memory: usize) -> Rooms {
 // The answer on a line: refused and exposed say so, and a policy that is not exposed has its pairs only.
 fn answer_of(operation: usize, line: &[u8]) -> Answer {
     let mut numbers = [0usize; 256];
-    let kind = text::numbers_of(line, &mut numbers);
+    let kind = lines::numbers_of(line, &mut numbers);
     let first = at(&numbers, 0);
     let second = at(&numbers, 1);
     if kind == b'r' {
@@ -89,7 +89,7 @@ fn begins(tally: &mut Tally, case: Case, front: File) {
 
 fn memory_of(line: &[u8]) -> usize {
     let mut numbers = [0usize; 256];
-    text::numbers_of(line, &mut numbers);
+    lines::numbers_of(line, &mut numbers);
     at(&numbers, 0)
 }
 
@@ -105,12 +105,12 @@ fn try_on(tally: &mut Tally, operation: usize, case: Case, line: &[u8]) {
 fn run(tally: &mut Tally, case: Case, line: &[u8]) -> Case {
     let mut next = case;
     match char_at(line, 0) {
-        b'p' => next.policy = text::bytes_of(line),
-        b'r' => next.request = text::bytes_of(line),
+        b'p' => next.policy = lines::bytes_of(line),
+        b'r' => next.request = lines::bytes_of(line),
         b'm' => next.rooms = rooms_of(memory_of(line)),
-        b't' => next.text = text::typed(line),
-        b'h' => next.text = text::bytes_of(line),
-        b'b' => begins(tally, case, text::bytes_of(line)),
+        b't' => next.text = lines::typed(line),
+        b'h' => next.text = lines::bytes_of(line),
+        b'b' => begins(tally, case, lines::bytes_of(line)),
         letter => try_on(tally, operation_of(letter), case, line),
     }
     next

@@ -6,7 +6,7 @@ use crate::file::File;
 
 // The shape of a policy: whether it is allowed by default, how deep and how large it grows, its first name, and of how many
 // names and values its pairs are.
-#[derive(Drop)]
+#[derive(Clone, Copy)]
 struct Plan {
     by_default: bool,
     deepest: usize,

@@ -1,6 +1,8 @@
 // Runs the six operations on policies and requests, both engines of decide among them, against an evaluator that was written for
 // this program alone, on document 01's cases and on generated ones, and document 02's written form on its cases; counts those in
 // which every number, place, value and byte of lent memory agrees.
+#![tactic(auto)]
+
 mod answer;
 mod arrays;
 mod compare;
@@ -9,6 +11,7 @@ mod fixed;
 mod forms;
 mod generate;
 mod library;
+mod lines;
 mod meaning;
 mod model;
 mod names;
@@ -17,42 +20,44 @@ mod rules;
 mod subsets;
 mod tally;
 mod term;
-mod text;
+
+ghost use Rattle.std.specs.Prelude.{◌≤◌, length, IfOk};
 
 use arrays::plus;
-use libc::{STDIN_FILENO, STDOUT_FILENO};
+use std::io;
+use std::io::Read;
 use tally::{Tally, count_of};
 
-fn say(word: &[u8]) {
-    io::write_all(STDOUT_FILENO, word);
+fn say(rt: &impl Print, word: &str) -> io::Result<()> {
+    print!(rt; "{word}")
 }
 
-fn number(n: usize) {
-    say(b" ");
-    io::print_decimal(STDOUT_FILENO, n as u64);
+fn number(rt: &impl Print, n: usize) -> io::Result<()> {
+    print!(rt; " {n}")
 }
 
-fn counts(tally: &Tally, group: usize) {
-    number(count_of(tally, plus(group, tally::RIGHT)));
-    say(b" of");
-    number(count_of(tally, plus(group, tally::RUN)));
-    say(b"\n");
+fn counts(rt: &impl Print, tally: &Tally, group: usize) -> io::Result<()> {
+    number(rt, count_of(tally, plus(group, tally::RIGHT)))?;
+    say(rt, " of")?;
+    number(rt, count_of(tally, plus(group, tally::RUN)))?;
+    say(rt, "\n")
 }
 
 // What was met of a group of counts: each one's number in it.
-fn met(tally: &Tally, from: usize, to: usize) {
+fn met(rt: &impl Print, tally: &Tally, from: usize, to: usize) -> io::Result<()> {
     for i in from..to {
         if count_of(tally, i) != 0 {
-            number(i - from);
+            number(rt, i - from)?;
         }
     }
+    Ok(())
 }
 
-fn disagreement(tally: &Tally, group: usize) {
-    number(count_of(tally, plus(group, tally::CASE)));
-    say(b" operation");
-    number(count_of(tally, plus(group, tally::OPERATION)));
-    say(b"\n");
+fn disagreement(rt: &impl Print, tally: &Tally, group: usize) -> io::Result<()> {
+    number(rt, count_of(tally, plus(group, tally::CASE)))?;
+    say(rt, " operation")?;
+    number(rt, count_of(tally, plus(group, tally::OPERATION)))?;
+    say(rt, "\n")
 }
 
 fn generated(tally: &mut Tally) {
@@ -64,43 +69,58 @@ fn generated(tally: &mut Tally) {
     }
 }
 
-fn report_met(tally: &Tally) {
-    say(b"refusals met");
-    met(tally, tally::REFUSALS, tally::SETS);
-    say(b"\nsets met");
-    met(tally, tally::SETS, tally::RULES);
-    say(b"\ncertificates met");
-    met(tally, tally::RULES, 64);
-    say(b"\nresistant");
-    number(count_of(tally, tally::RESISTANT));
-    say(b" exposed");
-    number(count_of(tally, tally::EXPOSED));
-    say(b"\n");
+fn report_met(rt: &impl Print, tally: &Tally) -> io::Result<()> {
+    say(rt, "refusals met")?;
+    met(rt, tally, tally::REFUSALS, tally::SETS)?;
+    say(rt, "\nsets met")?;
+    met(rt, tally, tally::SETS, tally::RULES)?;
+    say(rt, "\ncertificates met")?;
+    met(rt, tally, tally::RULES, 64)?;
+    say(rt, "\nresistant")?;
+    number(rt, count_of(tally, tally::RESISTANT))?;
+    say(rt, " exposed")?;
+    number(rt, count_of(tally, tally::EXPOSED))?;
+    say(rt, "\n")
 }
 
-fn report_first(tally: &Tally) {
-    say(b"first disagreement");
+fn report_first(rt: &impl Print, tally: &Tally) -> io::Result<()> {
+    say(rt, "first disagreement")?;
     if count_of(tally, plus(tally::FIXED, tally::CASE)) != 0 {
-        say(b" fixed");
-        disagreement(tally, tally::FIXED);
+        say(rt, " fixed")?;
+        disagreement(rt, tally, tally::FIXED)
     } else if count_of(tally, plus(tally::GENERATED, tally::CASE)) != 0 {
-        say(b" generated");
-        disagreement(tally, tally::GENERATED);
+        say(rt, " generated")?;
+        disagreement(rt, tally, tally::GENERATED)
     } else {
-        say(b" none\n");
+        say(rt, " none\n")
     }
 }
 
-fn main() {
-    let mut text = io::large_buffer();
-    let n = io::read_full(STDIN_FILENO, &mut text);
+// Reads until the buffer is full or the input ends, and answers how many bytes there are at the buffer's front.
+fn read_full(input: &mut impl Read, buffer: &mut [u8]) -> io::Result<usize>
+    ensures { IfOk result (λ n. n ≤ length buffer.new) }
+{
+    let mut done = 0;
+    while done < buffer.len() {
+        let n = input.read(&mut buffer[done..])?;
+        if n == 0 {
+            break;
+        }
+        done += n;
+    }
+    Ok(done)
+}
+
+fn main(rt: HostRuntime) -> io::Result<()> {
+    let mut text = [0u8; 65536];
+    let n = read_full(&mut rt.reader(), &mut text)?;
     let mut tally = [0usize; 64];
     fixed::all(&mut tally, &text[..n]);
     generated(&mut tally);
-    say(b"fixed");
-    counts(&tally, tally::FIXED);
-    say(b"generated");
-    counts(&tally, tally::GENERATED);
-    report_first(&tally);
-    report_met(&tally);
+    say(&rt, "fixed")?;
+    counts(&rt, &tally, tally::FIXED)?;
+    say(&rt, "generated")?;
+    counts(&rt, &tally, tally::GENERATED)?;
+    report_first(&rt, &tally)?;
+    report_met(&rt, &tally)
 }

@@ -4,7 +4,7 @@ use crate::file::File;
 
 // Bytes in the making: the number that is open, in both bases, whether its byte grows from copy to copy, and the group that
 // is to be copied.
-#[derive(Drop)]
+#[derive(Clone, Copy)]
 struct Draft {
     is_word: bool,
     is_open: bool,
@@ -17,7 +17,7 @@ struct Draft {
 }
 
 // Numbers in the making, and the first letter of a second word.
-#[derive(Drop)]
+#[derive(Clone, Copy)]
 struct Scan {
     is_space: bool,
     is_open: bool,
