@@ -49,8 +49,8 @@ extern "C" {
  * Only allow alone, code 1, releases a batch. Numbers 1 to 8, 15, 21 to 26, 14. */
 uint64_t sinkheron_decide(const uint8_t *policy, size_t policy_len, const uint8_t *request, size_t request_len);
 
-/* The same answer on all inputs, without calls that nest: nothing that it calls calls itself, calls go at most two deep, and 752 bytes of
- * stack suffice beside the call's own (measured; decide uses 4744). */
+/* The same answer on all inputs, without calls that nest: nothing that it calls calls itself, calls go at most two deep, and 624 bytes of
+ * stack suffice beside the call's own (measured; decide uses 3168). */
 uint64_t sinkheron_decide_flat(const uint8_t *policy, size_t policy_len, const uint8_t *request, size_t request_len);
 
 /* Whether leaving a fact out of a request can open a release, for a policy of at most 16 pairs: bit 8 has the verdict (0 resistant,

@@ -7,7 +7,7 @@
 #include <ucontext.h>
 
 /* The header says so; the goal was 4096. */
-enum { MOST_OF_FLAT = 752 };
+enum { MOST_OF_FLAT = 624 };
 
 enum { ROOM = 1 << 18 };
 
