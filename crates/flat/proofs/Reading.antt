@@ -1,5 +1,5 @@
 -- The reader's loop: what is due, read from here on, gives the whole answer, and each node met so far has its place.
-use Prim.Native.Nat.{ℕ, zero, suc, ◌+◌, ◌*◌, ◌/◌, ◌≤◌, ◌<◌, max}
+use Prim.Native.Nat.{ℕ, zero, suc, ◌+◌, ◌*◌, ◌-◌, ◌/◌, ◌≤◌, ◌<◌, max}
 use mathlib.Core.Path.{◌≡◌, refl, sym, ap, subst, ◌∙◌}
 use mathlib.Core.Bool.{Bool, true, false, cond}
 use mathlib.Core.List.{List, [], ◌∷◌, ◌++◌}
@@ -7,7 +7,7 @@ use native.Mathlib.Decide.{dec_lt}
 use native.Mathlib.Numerals.{add-one}
 use native.Mathlib.Omega.{arith}
 use lib.Dec.{eqb}
-use lib.ListN.{length, drop, get_or, set, length-set, drop_of_length-le}
+use lib.ListN.{length, drop, get_or, set, length-drop, length-set, drop_of_length-le}
 use lib.Seq.{drop-cons, get_or-set_same, get_or-set_other}
 use Rattle.ptacl.specs.Term.{policy, an_atom, tag_of}
 use Rattle.files.specs.Prefix.{scan}
@@ -18,6 +18,7 @@ use Rattle.files.proofs.PolicySeen.{never}
 use Rattle.flat.specs.Places.{behind, place_of}
 use Rattle.flat.specs.Due.{seen_due, seen_all, Lower, Opens}
 use Rattle.flat.specs.Read.{NodesRead}
+use Rattle.flat.proofs.Lists.{drop_put}
 
 -- how high the stack of what is due may yet get
 abbrev pub tallest : List ℕ → ℕ
@@ -130,3 +131,19 @@ module _ {b places stack : List ℕ} {top due at nodes : ℕ} (l : Loop b places
         size = l.size;
         low = omega (arith, l.low);
       }
+
+    -- one goes onto the stack
+    module _ {first second : ℕ} (o : Opens b due at nodes next (first ∷ second ∷ [])) where
+      pub loop_room : (1 ≤ top) × (top ≤ length stack)
+      loop_room = omega (arith, l.reading.tall, l.size, l.low, o.lower.0, length-drop top stack)
+
+      pub loop_two : Loop b (set places nodes at) (set stack (top - 1) second) (top - 1) first next (nodes + 1)
+      loop_two =
+          let e : suc (top - 1) ≡ top = omega (arith, loop_room) in
+          record {
+            reading = subst (λ ds. Reading b (first ∷ ds) (set places nodes at) next (nodes + 1))
+                (sym (drop_put stack (top - 1) second (omega (arith, loop_room)) ∙ ap (λ m. second ∷ drop m stack) e))
+                (reading_node l.reading (omega arith) o);
+            size = length-set stack (top - 1) second ∙ l.size;
+            low = omega (arith, l.low);
+          }
