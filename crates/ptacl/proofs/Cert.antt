@@ -47,17 +47,17 @@ ends (or p r) =
     base_ends (or p r) (given_ends (certificate p) (ends p) (λ h. given_ends (certificate r) (ends r) (λ k. inr (cert7 h k))))
 
 -- the number of the first test that passes, counted from n, else k
-abbrev first_of : ℕ → List Bool → ℕ → ℕ
-first_of n [] k = k
-first_of n (b ∷ bs) k = cond b n (first_of (suc n) bs k)
+abbrev first_true : ℕ → List Bool → ℕ → ℕ
+first_true n [] k = k
+first_true n (b ∷ bs) k = cond b n (first_true (suc n) bs k)
 
-first_least : (n : ℕ) (bs : List Bool) (k i : ℕ) → get_or bs i false ≡ true → (n ≤ first_of n bs k) × (first_of n bs k ≤ n + i)
+first_least : (n : ℕ) (bs : List Bool) (k i : ℕ) → get_or bs i false ≡ true → (n ≤ first_true n bs k) × (first_true n bs k ≤ n + i)
 first_least n [] k i h = clash h refl
 first_least n (true ∷ bs) k i h = omega arith
 first_least n (false ∷ bs) k zero h = clash h refl
 first_least n (false ∷ bs) k (suc i) h = let r = first_least (suc n) bs k i h in omega arith
 
-first_between : (n : ℕ) (bs : List Bool) (k : ℕ) → n + length bs ≤ k → (n ≤ first_of n bs k) × (first_of n bs k ≤ k)
+first_between : (n : ℕ) (bs : List Bool) (k : ℕ) → n + length bs ≤ k → (n ≤ first_true n bs k) × (first_true n bs k ≤ k)
 first_between n [] k l = omega arith
 first_between n (true ∷ bs) k l = omega arith
 first_between n (false ∷ bs) k l = let r = first_between (suc n) bs k (omega arith) in omega arith
@@ -65,7 +65,7 @@ first_between n (false ∷ bs) k l = let r = first_between (suc n) bs k (omega a
 abbrev tests : Policy → List Bool
 tests p = never p allows ∷ rule2 p ∷ rule3 p ∷ rule4 p ∷ []
 
-based : (p : Policy) → (k : ℕ) × (first_of 1 (tests p) k ≡ certificate p)
+based : (p : Policy) → (k : ℕ) × (first_true 1 (tests p) k ≡ certificate p)
 based deny = (0, refl)
 based allow = (0, refl)
 based (targeted t p) = (_, refl)

@@ -1,8 +1,9 @@
--- `hand_over` copies what was made, if it fits.
 use Rattle.files.proofs.Memory.{puts_over}
 use Rattle.sinkheron.specs.Files.{refuses, does_not_fit, fits}
 use Rattle.sinkheron.proofs.hand_over.Goals as goal
 
+-- `hand_over` gives the refusal that was made,
+-- or copies what was made, if it fits.
 pub returns-in-Refused : goal.returns-in-Refused
 returns-in-Refused c = rw c.in-Refused.is refuses
 
