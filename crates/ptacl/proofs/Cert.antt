@@ -1,22 +1,18 @@
 -- The tests decide the rules, and the certificate's number is the smallest that applies, or 0.
 use Prim.Native.Nat.{ℕ, zero, suc, ◌≤◌, ◌+◌}
 use mathlib.Core.Path.{◌≡◌, refl, sym, subst, ◌∙◌}
-use mathlib.Core.Logic.{◌⊎◌, inl, inr, ⊎_elim, ◌↔◌}
+use mathlib.Core.Logic.{◌⊎◌, inl, inr, ⊎_elim}
 use mathlib.Core.Bool.{Bool, true, false, cond}
 use mathlib.Core.List.{List, [], ◌∷◌}
 use native.Mathlib.Omega.{arith}
 use lib.ListN.{length, get_or}
 use Rattle.ptacl.specs.Term.{Policy, deny, allow, targeted, not, default, and, or}
 use Rattle.ptacl.specs.Exposure.{Resistant}
-use Rattle.ptacl.specs.Rules.{Effect, allows, rule2, rule3, rule4, Certified, cert1, cert2, cert3, cert4, cert5, cert6, cert7}
-use Rattle.ptacl.specs.Rules.{Never}
+use Rattle.ptacl.specs.Rules.{allows, rule2, rule3, rule4, Certified, cert1, cert2, cert3, cert4, cert5, cert6, cert7}
 use Rattle.ptacl.specs.Rules.{Certificate, none, least, never, base, given, certificate}
 use Rattle.ptacl.proofs.Bools.{clash}
 use Rattle.ptacl.proofs.Never.{never_holds, never_passes}
 use Rattle.ptacl.proofs.Rules.{certified_resistant}
-
-pub never_decides : (e : Effect) (p : Policy) → (never p e ≡ true) ↔ Never e p
-never_decides e p = (never_holds p e, never_passes)
 
 -- the certificate's number is 0 or that of a rule that applies
 abbrev Ends : Policy → ℕ → Type 0

@@ -1,10 +1,9 @@
 -- Two tests that agree at every value of a finite type, which is computed, agree. A test that passes at every node, which is computed,
 -- passes at each; so no byte is that of nodes of both sorts.
-use Prim.Native.Nat.{ℕ}
-use mathlib.Core.Path.{◌≡◌, refl, sym, ◌∙◌}
+use mathlib.Core.Path.{◌≡◌, refl, sym}
 use mathlib.Core.Bool.{Bool, true, false, not as no, ◌&&◌, ◌||◌, beq, true≢false}
 use lib.Dec.{eqb}
-use borrow.Author.Tests.{eq-eqb, not-true}
+use borrow.Author.Tests.{eq-eqb}
 use Rattle.ptacl.specs.Value.{Value, v1, v0, v_u}
 use Rattle.ptacl.specs.Values.{Values}
 use Rattle.ptacl.specs.Term.{Sort, target, policy, Node, an_atom, a_deny, an_allow, a_targeted, a_not, a_default, an_and, an_or, tag_of}
@@ -104,14 +103,6 @@ apart_by k l = on_both (λ r m. on_both (λ s n. no (eqb (tag_of m) (tag_of n)))
 pub tags_differ : (k l : (s : Sort) → Node s) → apart_by k l ≡ true → (r s : Sort) → no (eqb (tag_of (k r)) (tag_of (l s))) ≡ true
 tags_differ k l h r s =
     at_both (λ s n. no (eqb (tag_of (k r)) (tag_of n))) l (at_both (λ r m. on_both (λ s n. no (eqb (tag_of m) (tag_of n))) l) k h r) s
-
-pub tags_apart : (k l : (s : Sort) → Node s) → apart_by k l ≡ true → (r s : Sort) → tag_of (k r) ≡ tag_of (l s) → ⊥
-tags_apart k l h r s e = true≢false (sym (eq-eqb (tag_of (k r)) (tag_of (l s)) e) ∙ not-true (eqb (tag_of (k r)) (tag_of (l s))) (tags_differ k l h r s))
-
--- no byte of a kind, if it is that of neither sort
-pub no_sort : (k : (s : Sort) → Node s) {b : ℕ} → (b ≡ tag_of (k target) → ⊥) → (b ≡ tag_of (k policy) → ⊥) → (s : Sort) → b ≡ tag_of (k s) → ⊥
-no_sort k f g target = f
-no_sort k f g policy = g
 
 -- of two nodes with the same byte the sort is the same
 abbrev same_sort : Sort → Sort → Bool

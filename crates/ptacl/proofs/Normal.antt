@@ -45,16 +45,6 @@ eval_agree (and {s = s} t u) a =
 eval_agree (or {s = s} t u) a =
     ap₂ (lift2 or_v s) (eval_agree t (agree_left (atoms t) (atoms u) a)) (eval_agree u (agree_right (atoms t) (atoms u) a))
 
--- requests that hold the same pairs
-pub eval_same : {s : Sort} (t : Term s) (q r : Request) → ((x : Pair) → holds q x ≡ holds r x) → eval t q ≡ eval t r
-eval_same t q r e = eval_agree t (record { on_pairs = λ x h. e x; on_names = λ n h. iff (has_up there n) (has_up back n) })
-  where
-    there : Within q r
-    there = record { up = λ x h. sym (e x) ∙ h }
-
-    back : Within r q
-    back = record { up = λ x h. e x ∙ h }
-
 -- a value that the request holds of a name and that is not named
 unnamed_of : (ats : List Pair) (q : Request) (x : Pair) → holds q x ≡ true → named ats x ≡ false → unnamed ats q x.0 ≡ true
 unnamed_of ats [] x h k = h

@@ -66,7 +66,7 @@ fresh_holds ats x = iff there back
         let e = fresh_one ats x.0 (fresh_value ats x.0) x.1 (fresh_exists ats x.0 u) h in
         subst (λ v. holds (map (fresh_pair ats) ats) (x.0, v) ≡ true) e (holds_map (fresh_pair ats) ats (x.0, r.0) r.1)
 
-all_holds : (ats : List Pair) (x : Pair) → holds (all_pairs ats) x ≡ named_or_fresh ats x
+pub all_holds : (ats : List Pair) (x : Pair) → holds (all_pairs ats) x ≡ named_or_fresh ats x
 unfolding named_or_fresh
 all_holds ats x = holds_append ats (map (fresh_pair ats) ats) x ∙ ap (λ b. named ats x || b) (fresh_holds ats x)
 

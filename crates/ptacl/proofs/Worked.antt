@@ -1,4 +1,4 @@
--- The worked policies A to F of document 01 as terms, with policies of document 02's or, proved together as one table; and the
+-- The worked policies A to F as terms, with policies that have ors, proved together as one table; and the
 -- counterexample to weak monotonicity.
 use Prim.Native.Nat.{ℕ, ◌<◌, ◌-◌, ◌^◌}
 use mathlib.Core.Path.{◌≡◌, refl, ap₂, subst, ◌∙◌}

@@ -1,4 +1,4 @@
--- Document 01, "Exposure and search", up to the first exposure. Where a set counts as allowed is a reading, and which requests are
+-- Exposures, up to the first. Where a set counts as allowed is a reading, and which requests are
 -- compared is a relation; this page's are strict, and one request within another.
 use Rattle.std.specs.Prelude.{ℕ, ◌-◌, ◌/◌, ◌%◌, ◌^◌, ◌<◌, ◌≡◌, Bool, true, false, cond, List, [], ◌∷◌, eqb, length}
 use Rattle.ptacl.specs.Value.{v1}

@@ -1,4 +1,4 @@
--- Document 01, "Names, requests, three values": what a target and a policy come to.
+-- What a target and a policy come to.
 use Rattle.std.specs.Prelude.{ℕ, cond}
 use Rattle.ptacl.specs.Value.{Value, v1, v0, v_u, not_v, default_v, and_v, or_v}
 use Rattle.ptacl.specs.Values.{Values, single, each, each2, under}

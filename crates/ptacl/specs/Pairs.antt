@@ -1,4 +1,4 @@
--- Document 01, "Pairs and normal form". All of it speaks of the list of a policy's atoms.
+-- The pairs of a policy, and normal forms. All of it speaks of the list of a policy's atoms.
 use Rattle.std.specs.Prelude.{ℕ, zero, suc, ◌+◌, ◌*◌, ◌/◌, ◌%◌, ◌≡◌, Bool, true, false, not, ◌&&◌, ◌||◌, List, [], ◌∷◌, eqb}
 use Rattle.ptacl.specs.Request.{Pair, Request, holds, has, ascending}
 

@@ -1,4 +1,4 @@
--- Document 01, "Names, requests, three values": pairs, requests, one within another; and the order of pairs.
+-- Pairs, requests, one within another; and the order of pairs.
 use Rattle.std.specs.Prelude.{ℕ, ◌≡◌, Bool, true, false, ◌&&◌, ◌||◌, List, [], ◌∷◌, eqb, ltb}
 
 -- a name and a value; of any size, since resistance speaks of all finite requests

@@ -1,4 +1,4 @@
--- Document 01, "Structural rules", with document 02, C-13: the two judgements and the certificates as derivations, and the certificate's
+-- The structural rules: the two judgements and the certificates as derivations, and the certificate's
 -- number.
 use Rattle.std.specs.Prelude.{ℕ, zero, suc, ◌≤◌, ◌≡◌, Bool, true, false, ◌&&◌, ◌||◌, cond}
 use Rattle.ptacl.specs.Term.{Sort, target, policy, Term, Target, Policy, deny, allow, targeted, not, default, and, or, a_targeted, a_not, a_default, without}

@@ -1,4 +1,4 @@
--- Document 02, C-13: a term with every or spelled out as not(and(not, not)).
+-- A term with every or spelled out as not(and(not, not)).
 use Rattle.ptacl.specs.Term.{Sort, Term, atom, deny, allow, targeted, not, default, and, or}
 
 abbrev pub spelled : {s : Sort} → Term s → Term s

@@ -1,5 +1,5 @@
--- Document 01, "Names, requests, three values", with the or of document 02, C-13: targets and policies, one family of terms over the two
--- sorts; their nodes, each known by its byte in the table of "Files".
+-- Targets and policies, one family of terms over the two
+-- sorts; their nodes, each known by its byte in a file.
 use Rattle.std.specs.Prelude.{ℕ, ◌+◌, Bool, not as no, ◌&&◌, List, [], ◌∷◌, ◌++◌, eqb}
 use Rattle.ptacl.specs.Request.{Pair}
 

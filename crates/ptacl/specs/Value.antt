@@ -1,4 +1,4 @@
--- Document 01, "Names, requests, three values": the three values and their operations.
+-- The three values and their operations.
 use Rattle.std.specs.Prelude.{Bool, true, false, ◌||◌, cond}
 
 -- 1, 0 and undefined
@@ -32,6 +32,6 @@ default_v v_u = v0
 abbrev pub and_v : Value → Value → Value
 and_v a b = cond (same a v0 || same b v0) v0 (cond (same a v_u || same b v_u) v_u v1)
 
--- document 02, C-13: an or has the meaning of not(and(not, not)), so 1 if either side is 1; else U if either side is U; else 0
+-- an or has the meaning of not(and(not, not)), so 1 if either side is 1; else U if either side is U; else 0
 abbrev pub or_v : Value → Value → Value
 or_v a b = cond (same a v1 || same b v1) v1 (cond (same a v_u || same b v_u) v_u v0)

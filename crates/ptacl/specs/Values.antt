@@ -1,4 +1,4 @@
--- Document 01, "Names, requests, three values": sets of values, the operations on every member or every pair of members, and
+-- Sets of values, the operations on every member or every pair of members, and
 -- the code of a set.
 use Rattle.std.specs.Prelude.{ℕ, ◌+◌, ◌/◌, ◌%◌, Bool, not, ◌&&◌, ◌||◌, cond, eqb}
 use Rattle.ptacl.specs.Value.{Value, v1, v0, v_u, same}

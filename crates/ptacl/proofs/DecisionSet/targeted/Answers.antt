@@ -17,18 +17,14 @@ by_value {c} {d} {e} small one zero unknown = record { value = go; small = small
     go v0 = zero
     go v_u = unknown
 
-pub returns-then-target-eq1 : goal.returns-then-target-eq1
+pub returns-in-1 : goal.returns-in-1
 unfolding under
-returns-then-target-eq1 c = by_value (omega arith)
-    (λ e. of_code (λ k. k) (λ s. s) refl c.args.self.code)
-    (λ e. absurd (omega (arith, c.if-target-eq1.true)))
-    (λ e. absurd (omega (arith, c.if-target-eq1.true)))
+returns-in-1 c = by_value (omega arith) (λ e. of_code (λ k. k) (λ s. s) refl c.args.self.code) (λ e. omega arith) (λ e. omega arith)
 
-pub returns-then-target-eq2 : goal.returns-then-target-eq2
+pub returns-in-2 : goal.returns-in-2
 unfolding under
-returns-then-target-eq2 c = by_value (omega arith) (λ e. absurd (omega (arith, c.if-target-eq2.true))) (λ e. refl)
-    (λ e. absurd (omega (arith, c.if-target-eq2.true)))
+returns-in-2 c = by_value (omega arith) (λ e. omega arith) (λ e. refl) (λ e. omega arith)
 
-pub returns : goal.returns
+pub returns-in_default : goal.returns-in_default
 unfolding under
-returns c = by_value (code_small (union (set_of c.args.self.code) (set_of 4)) c.union.ensures) (λ e. absurd (c.if-target-eq1.false e)) (λ e. absurd (c.if-target-eq2.false e)) (λ e. c.union.ensures)
+returns-in_default c = by_value (code_small (union (set_of c.args.self.code) (set_of 4)) c.union.ensures) (λ e. omega arith) (λ e. omega arith) (λ e. c.union.ensures)
