@@ -10,22 +10,22 @@ use mir.Val.{Fits}
 use lib.ListN.{length, drop, get_or, length-drop}
 use lib.Seq.{drop-cons}
 use borrow.Author.Tests.{eq-eqb, ne_eqb, lt-ltb, le-ltb}
-use Rattle.files.specs.declared.frame.Frame.{Frame}
+use Rattle.ptacl.specs.Request.{Request}
 use Rattle.files.specs.Encoding.{framed, Bytes}
 use Rattle.files.specs.Refusal.{Read, accepted, refused, dec16, unframed}
-use Rattle.files.specs.Cases.{frame_of}
+use Rattle.std.specs.Prelude.{Result, Ok, Err, IfErr, IsErr, IsErrAnd}
+use Rattle.files.specs.Faults.{WholeFile, fault_number, frame_offset, OfFrame, OfRequestFrame, RequestGives}
+use Rattle.files.specs.ReadRequest.{read_request_from}
+use Rattle.files.specs.declared.fault.PolicyError.{PolicyError}
+use Rattle.files.specs.declared.fault.RequestError.{RequestError}
+use Rattle.files.specs.declared.frame.FrameError.{FrameError}
+use Rattle.files.specs.ReadPolicy.{read_policy}
 use Rattle.files.proofs.BigEndian.{big_dec16}
 
 -- what reading a file may give: what it is the file of, or a refusal within bounds
 abbrev pub Gives : {A : Type 0} → (A → Type 0) → (ℕ → ℕ → Type 0) → Read A → Type 0
 Gives IsFile Bounds (accepted a) = IsFile a
 Gives IsFile Bounds (refused n p) = Bounds n p
-
--- none of the three refusals
-pub record WholeFile (s : List ℕ) : Type 0 where
-  pub long : 3 ≤ length s
-  pub version : get_or s 0 0 ≡ 1
-  pub stated : dec16 s 1 ≡ length s - 3
 
 module _ {A : Type 0} (first : ℕ) (s : List ℕ) (body : Read A) where
   pub unframed_short : length s < 3 → unframed first s body ≡ refused first (length s)
@@ -104,29 +104,36 @@ module _ (first : ℕ) (s : List ℕ) where
     ]
   ]
 
-  -- what the code's answer tells
-  pub whole_file : frame_of (unframed first s (accepted tt)) ≡ Frame.Whole → WholeFile s
-  whole_file e = at framing
-    where
-      at : Framing first s → WholeFile s
-      at (faulty n p r) = absurd (true≢false (cc (r.given (accepted (tt {0})))))
-      at (whole w) = w
+  -- refused for one body, it is for all
+  module _ {n p : ℕ} (e : unframed first s (accepted (tt {0})) ≡ refused n p) where
+    pub refusal : Refusal first s n p
+    refusal = at framing
+      where
+        at : Framing first s → Refusal first s n p
+        at (faulty m q r) =
+            let f : ◌≡◌ {A = Read (Unit {0})} (refused m q) (refused n p) = sym (r.given (accepted tt)) ∙ e in
+            let a : m ≡ n = cc in
+            let b : q ≡ p = cc in
+            rw (← a, ← b) r
+        at (whole w) = absurd (true≢false (cc (unframed_whole first s (accepted (tt {0})) w)))
 
-  pub refusal : {n p : ℕ} → frame_of (unframed first s (accepted tt)) ≡ Frame.Refused n p → Refusal first s n p
-  refusal {n} {p} e = at framing
-    where
-      at : Framing first s → Refusal first s n p
-      at (faulty m q r) =
-          let f : Frame.Refused m q ≡ Frame.Refused n p = sym (ap frame_of (r.given (accepted tt))) ∙ e in
-          let a : m ≡ n = cc in
-          let b : q ≡ p = cc in
-          rw (← a, ← b) r
-      at (whole w) =
-          absurd (true≢false (cc (unframed_whole first s (accepted (tt {0})) w)))
+    pub refused_frame : {A : Type 0} (body : Read A) → unframed first s body ≡ refused n p
+    refused_frame body = refusal.given body
 
-  module _ {A : Type 0} (body : Read A) where
-    pub whole_frame : frame_of (unframed first s (accepted tt)) ≡ Frame.Whole → unframed first s body ≡ body
-    whole_frame e = unframed_whole first s body (whole_file e)
+pub policy_unframed : (s : List ℕ) (n p : ℕ) → unframed 1 s (accepted (tt {0})) ≡ refused n p → read_policy s ≡ refused n p
+unfolding read_policy
+policy_unframed s n p e = refused_frame 1 s e _
 
-    pub refused_frame : {n p : ℕ} → frame_of (unframed first s (accepted tt)) ≡ Frame.Refused n p → unframed first s body ≡ refused n p
-    refused_frame e = (refusal e).given body
+-- so by the error that a frame's becomes
+pub policy_framed : {X : Type 0} (s : List ℕ) (frame : FrameError) (r : Result X PolicyError) → IsErrAnd r (OfFrame frame)
+    → unframed 1 s (accepted (tt {0})) ≡ refused (1 + frame_offset frame.fault) frame.place
+    → IfErr r (λ e. read_policy s ≡ refused (fault_number e.fault) e.place)
+policy_framed s frame (Err e) o h = rw (o.0, o.1) (policy_unframed s _ _ h)
+policy_framed s frame (Ok x) o h = tt
+
+pub request_framed : {X : Type 0} (view : X → Request) (s : List ℕ) (frame : FrameError) (r : Result X RequestError)
+    → IsErr r × IsErrAnd r (OfRequestFrame frame) → unframed 21 s (accepted (tt {0})) ≡ refused (21 + frame_offset frame.fault) frame.place
+    → RequestGives view r (read_request_from 21 s)
+unfolding read_request_from
+request_framed view s frame (Err e) o h = rw (o.1.0, o.1.1) (refused_frame 21 s h _)
+request_framed view s frame (Ok x) o h = absurd (true≢false (sym o.0))

@@ -6,7 +6,7 @@ use native.Mathlib.Omega.{arith}
 use lib.ListN.{length, drop}
 use lib.Seq.{drop-append_seam}
 use borrow.Author.Tests.{le-ltb}
-use Rattle.ptacl.specs.Term.{Sort, Term, Policy, nodes}
+use Rattle.ptacl.specs.Term.{Sort, policy, Term, Policy, nodes}
 use Rattle.files.specs.Encoding.{enc, depth, framed, Fits, policy_file, IsPolicy}
 use Rattle.files.specs.Refusal.{accepted}
 use Rattle.files.specs.Prefix.{done, scan}
@@ -45,13 +45,21 @@ policy_file_injective p r e =
 pub policy_read_one : {s : List ℕ} {p r : Policy} → IsPolicy s p → IsPolicy s r → p ≡ r
 policy_read_one {p = p} {r = r} f g = policy_file_injective p r (sym f.file ∙ g.file)
 
--- a policy within the limits is read from its file
+-- a policy within the limits is read from its file, body and all
+body_scanned : (p : Policy) → Fits p → scan (in_bytes 255 (policy_file p)) 32 policy tt 3 0 ≡ done p (length (policy_file p)) (nodes p)
+unfolding policy_file framed
+body_scanned p f =
+    let s = policy_file p in
+    let h : At s 3 (enc p) = record { rest = []; split = sym (append-nil (enc p)) } in
+    complete 255 s p 32 3 0 (length s) (nodes p) h f.shallow (omega (arith, f.few)) (omega arith) (omega arith)
+
+pub policy_scanned : {s : List ℕ} {p : Policy} → IsPolicy s p → scan (in_bytes 255 s) 32 policy tt 3 0 ≡ done p (length s) (nodes p)
+policy_scanned {p = p} f = rw f.file (body_scanned p f.fits)
+
 pub read_file : (p : Policy) → Fits p → read_policy (policy_file p) ≡ accepted p
 unfolding read_policy policy_file framed
 read_file p f =
     let s = policy_file p in
-    let h : At s 3 (enc p) = record { rest = []; split = sym (append-nil (enc p)) } in
     unframed_whole 1 s _ (framed_whole (enc p))
-    ∙ ap (finish 8 (length s))
-    (complete 255 s p 32 3 0 (length s) (nodes p) h f.shallow (omega (arith, f.few)) (omega arith) (omega arith))
+    ∙ ap (finish 8 (length s)) (body_scanned p f)
     ∙ simp (le-ltb (length s) (length s) (omega arith))

@@ -10,7 +10,8 @@ use Rattle.files.specs.Encoding.{bytes, enc, framed, Fits, policy_file, IsPolicy
 use Rattle.files.specs.Refusal.{Read, accepted, refused, unframed}
 use Rattle.files.specs.Prefix.{spell, scan}
 use Rattle.files.specs.ReadPolicy.{in_bytes, finish, read_policy}
-use Rattle.files.proofs.Framing.{Gives, unframed_whole, WholeFile, whole_short, framed_body, Framing, faulty, whole, framing}
+use Rattle.files.specs.Faults.{WholeFile}
+use Rattle.files.proofs.Framing.{Gives, unframed_whole, whole_short, framed_body, Framing, faulty, whole, framing}
 use Rattle.files.proofs.Prefix.{good, finished as ended}
 use Rattle.files.proofs.PolicySteps.{Faulty, byte_laws, pairs_told}
 use Rattle.files.proofs.PolicyComplete.{read_file}

@@ -59,6 +59,13 @@ limits most left nodes = go (eqb left 0) (ltb nodes most) refl refl
 pub limits_are : {most left nodes : ℕ} → 1 ≤ left → nodes < most → limit_of most left nodes ≡ 0
 limits_are {most} {left} {nodes} d f = simp (ne_eqb left 0 (λ e. omega arith), lt-ltb nodes most f)
 
+pub limits_kept : (most left nodes : ℕ) → limit_of most left nodes ≡ 0 → (1 ≤ left) × (nodes < most)
+limits_kept most left nodes e = go (limits most left nodes) e
+  where
+    go : {number : ℕ} → Limits most left nodes number → number ≡ 0 → (1 ≤ left) × (nodes < most)
+    go (kept i d k) z = (d, k)
+    go (passed a b) z = omega (arith, z)
+
 -- a property of a head, by its cases: it is a slip, strange, 6 or 7, or a node within the limits
 pub tagged_told : {s : Sort} (P : Head s → Type 0) {slip strange at : ℕ} {follows : Node s → Head s} (most left nodes : ℕ) (x : Byte s)
     → ((n : Node (other_sort s)) → x ≡ other n → P (stop slip at)) → (x ≡ unknown → P (stop strange at)) → ((l : ℕ) → 6 ≤ l → l ≤ 7 → P (stop l at))

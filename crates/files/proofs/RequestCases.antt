@@ -7,7 +7,8 @@ use lib.ListN.{length}
 use borrow.Author.Tests.{lt-ltb, le-ltb}
 use Rattle.files.specs.Refusal.{refused}
 use Rattle.files.specs.ReadRequest.{pairs_at, in_order, read_request_from}
-use Rattle.files.proofs.Framing.{WholeFile, unframed_whole, Refusal}
+use Rattle.files.specs.Faults.{WholeFile}
+use Rattle.files.proofs.Framing.{unframed_whole, Refusal}
 
 pub request_unframed : (first : ℕ) {s : List ℕ} {n p : ℕ} → Refusal first s n p → read_request_from first s ≡ refused n p
 unfolding read_request_from

@@ -1,22 +1,18 @@
--- A file is read as a request exactly if it is that request's file; what a read request gives the passes behind it.
+-- A file is read as a request exactly if it is that request's file.
 use Prim.Native.Nat.{ℕ, ◌+◌, ◌*◌, ◌-◌, ◌/◌, ◌%◌, ◌≤◌}
 use mathlib.Core.Path.{◌≡◌, refl, sym, ap, subst, ◌∙◌}
 use mathlib.Core.Logic.{◌↔◌}
 use mathlib.Core.Bool.{true≢false}
-use mathlib.Core.List.{List, map}
+use mathlib.Core.List.{List}
 use native.Mathlib.Decide.{dec_lt, ℕ_discrete}
 use native.Mathlib.Omega.{arith}
 use lib.ListN.{length}
 use Rattle.ptacl.specs.Request.{Request}
-use Rattle.ptacl.specs.Pairs.{unpacked}
-use Rattle.files.specs.declared.request.RequestRead.{RequestRead}
 use Rattle.files.specs.Encoding.{framed, pair_bytes, request_file, FitsRequest, IsRequest, Bytes}
 use Rattle.files.specs.Refusal.{Read, accepted, refused}
 use Rattle.files.specs.ReadRequest.{pairs_at, in_order, read_request_from}
-use Rattle.files.specs.Places.{numbers_of}
-use Rattle.files.specs.Cases.{request_read}
-use Rattle.files.proofs.Numbers.{map_unpacked_packed}
-use Rattle.files.proofs.Framing.{Gives, WholeFile, framed_whole, framed_body, Framing, faulty, whole, framing}
+use Rattle.files.specs.Faults.{WholeFile}
+use Rattle.files.proofs.Framing.{Gives, framed_whole, framed_body, Framing, faulty, whole, framing}
 use Rattle.files.proofs.Memory.{request_length}
 use Rattle.files.proofs.InOrder.{Ordering, ascends, falls, ordering}
 use Rattle.files.proofs.RequestBody.{pairs_range, pairs_length, pairs_bytes, bytes_pairs}
@@ -84,22 +80,3 @@ request_exact first s b q = ((λ e. subst (GivesRequest first s) e (gives first 
 
 pub request_refused_range : (first : ℕ) (s : List ℕ) {n p : ℕ} → read_request_from first s ≡ refused n p → (first ≤ n) × (n ≤ first + 5) × (p ≤ 1027)
 request_refused_range first s e = subst (GivesRequest first s) e (gives first s)
-
--- what the code's answer for a file tells
-pub request_accepted : (x : Read Request) → request_read x ≡ RequestRead.Accepted → (q : Request) × (x ≡ accepted q)
-request_accepted (accepted q) e = (q, refl)
-request_accepted (refused n at) e = absurd (true≢false cc)
-
-pub request_refused : (x : Read Request) {n p : ℕ} → request_read x ≡ RequestRead.Refused n p → x ≡ refused n p
-request_refused (accepted q) e = cc
-request_refused (refused n at) e = cc
-
--- the numbers of a request's file are those of its pairs
-pub numbers_request : {s : List ℕ} {q : Request} → IsRequest s q → map unpacked (numbers_of s) ≡ q
-unfolding numbers_of
-numbers_request {s} {q} i =
-    let l = request_length q in
-    let f = ap length i.file in
-    let n : (length s - 3) / 4 ≡ length q = omega arith in
-    let e : pairs_at ((length s - 3) / 4) s 3 ≡ q = (rw (n, i.file) (file_pairs q)) in
-    rw e (map_unpacked_packed q i.fits.range)

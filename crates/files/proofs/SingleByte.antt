@@ -1,19 +1,14 @@
 -- Which bytes are tags, of which sort and node.
-use Prim.Native.Nat.{ℕ, ◌+◌, ◌-◌, ◌≤◌, ◌<◌}
+use Prim.Native.Nat.{ℕ}
 use mathlib.Core.Path.{◌≡◌, refl, sym, ap, subst, ◌∙◌}
-use mathlib.Core.Logic.{◌⊎◌, inl, inr}
-use mathlib.Core.Bool.{Bool, true, false, ◌&&◌, true≢false}
+use mathlib.Core.Bool.{Bool, true, false, true≢false}
 use mathlib.Core.List.{List, [], ◌∷◌}
-use native.Mathlib.Omega.{arith}
-use lib.Dec.{eqb, ltb}
-use borrow.Author.Tests.{eqb-true, ltb-true}
-use Rattle.ptacl.specs.Pairs.{all_below}
+use lib.Dec.{eqb}
+use borrow.Author.Tests.{eqb-true}
 use Rattle.ptacl.specs.Term.{Sort, target, policy, Node, an_atom, a_deny, an_allow, a_targeted, a_not, a_default, an_and, an_or, tag_of}
-use Rattle.ptacl.proofs.Bools.{either, and_left, and_right, below_at}
+use Rattle.ptacl.proofs.Bools.{either}
 use Rattle.ptacl.proofs.Finite.{at_node}
 use Rattle.files.specs.ReadPolicy.{other_sort, Byte, tag, other, unknown, find, nodes_of, byte_at}
-use Rattle.files.specs.Cases.{first_tag, last_tag, byte_of}
-use Rattle.files.specs.declared.policy.Byte.{Byte as ByteC}
 
 -- a property of what is found, by the test that it meets
 pub found : {s : Sort} {A : Type 0} (P : A → Type 0) (test : Node s → Bool) {is : Node s → A} {none : A} (ns : List (Node s))
@@ -42,6 +37,9 @@ byte_node s b = byte_told s b (OfNode (λ r n. b ≡ tag_of n)) (λ n e. e) (λ 
 pub byte_found : (s : Sort) (b : ℕ) (n : Node s) → byte_at s b ≡ tag n → b ≡ tag_of n
 byte_found s b n e = subst (OfNode (λ r n. b ≡ tag_of n)) e (byte_node s b)
 
+pub byte_other : (s : Sort) (b : ℕ) (n : Node (other_sort s)) → byte_at s b ≡ other n → b ≡ tag_of n
+byte_other s b n e = subst (OfNode (λ r n. b ≡ tag_of n)) e (byte_node s b)
+
 -- every node is known by its byte
 pub known : {s : Sort} (n : Node s) → byte_at s (tag_of n) ≡ tag n
 unfolding byte_at
@@ -64,51 +62,6 @@ same_node {s} m n e = go (sym (known m) ∙ ap (byte_at s) e ∙ known n)
   where
     go : tag m ≡ tag n → m ≡ n
     go e = cc
-
--- ---- by the tags of a sort, which are one behind another
-
-between : {s : Sort} (n : Node s) → (first_tag s ≤ tag_of n) × (tag_of n ≤ last_tag s)
-between {s} n =
-    let h = at_node (λ s n. ltb (first_tag s) (tag_of n + 1) && ltb (tag_of n) (last_tag s + 1)) refl n in
-    (omega (arith, ltb-true (first_tag s) (tag_of n + 1) (and_left _ h)), omega (arith, ltb-true (tag_of n) (last_tag s + 1) (and_right (ltb (first_tag s) (tag_of n + 1)) h)))
-
--- a byte that is no tag of the sort and not among those of the other
-pub told_unknown : (s : Sort) {b : ℕ} → ((n : Node s) → b ≡ tag_of n → ⊥) → (b < first_tag (other_sort s)) ⊎ (last_tag (other_sort s) < b)
-    → ByteC.Unknown ≡ byte_of (byte_at s b)
-told_unknown s {b} f g = byte_told s b (λ x. ByteC.Unknown ≡ byte_of x) (λ n e. absurd (f n e)) (λ n e. absurd (none n e g)) refl
-  where
-    none : (n : Node (other_sort s)) → b ≡ tag_of n → (b < first_tag (other_sort s)) ⊎ (last_tag (other_sort s) < b) → ⊥
-    none n e (inl l) = omega (arith, between n)
-    none n e (inr l) = omega (arith, between n)
-
-abbrev is_other : {s : Sort} → Byte s → Bool
-is_other (tag n) = false
-is_other (other n) = true
-is_other unknown = false
-
--- from its first tag on, as many as the other sort has
-abbrev other_at : Sort → ℕ → Bool
-other_at s i = is_other (byte_at s (first_tag (other_sort s) + i))
-
-abbrev many : Sort → ℕ
-many s = last_tag (other_sort s) + 1 - first_tag (other_sort s)
-
-others : (s : Sort) → all_below (other_at s) (many s) ≡ true
-unfolding byte_at
-others target = refl
-others policy = refl
-
--- a byte among the tags of the other sort
-pub told_other : (s : Sort) {b : ℕ} → first_tag (other_sort s) ≤ b → b ≤ last_tag (other_sort s) → ByteC.Other ≡ byte_of (byte_at s b)
-told_other s {b} l h =
-    let i = b - first_tag (other_sort s) in
-    let e : first_tag (other_sort s) + i ≡ b = omega arith in
-    go (byte_at s b) (rw e at (below_at (other_at s) (many s) (others s) i (omega arith)))
-  where
-    go : (x : Byte s) → is_other x ≡ true → ByteC.Other ≡ byte_of x
-    go (tag n) e = absurd (true≢false (sym e))
-    go (other n) e = refl
-    go unknown e = absurd (true≢false (sym e))
 
 -- ---- a node's byte is no unknown one, whichever sort is due
 

@@ -1,4 +1,4 @@
--- Edges of document 01's "Refusal numbers" and "Worked policies": computed, the longest file by the laws of reading.
+-- Edges of reading a policy file, by the worked policies: computed, the longest file by the laws of reading.
 use Prim.Native.Nat.{ℕ, zero, suc}
 use mathlib.Core.Path.{◌≡◌, refl, ap, ◌∙◌}
 use mathlib.Core.List.{List, [], ◌∷◌, ◌++◌}
@@ -58,7 +58,7 @@ pub no_tag : read_policy (1 ∷ 0 ∷ 2 ∷ 0x22 ∷ 0x15 ∷ []) ≡ refused 5 
 unfolding read_policy unframed scan body below head_at byte_at pair_at
 no_tag = refl
 
--- document 02, C-13: an or of each sort is read, and is a slip where the other sort is due
+-- an or of each sort is read, and is a slip where the other sort is due
 pub or_read : read_policy (1 ∷ 0 ∷ 15 ∷ 0x26 ∷ 0x22 ∷ 0x14 ∷ 0x10 ∷ 0 ∷ 1 ∷ 0 ∷ 2 ∷ 0x10 ∷ 0 ∷ 2 ∷ 0 ∷ 1 ∷ 0x21 ∷ 0x20 ∷ [])
     ≡ accepted (or (targeted (or (atom 1 2) (atom 2 1)) allow) deny)
 unfolding read_policy unframed scan body below head_at byte_at pair_at

@@ -1,4 +1,4 @@
--- Document 01's edges of a request file: too short, a body that is no multiple of 4, 256 and 257 pairs, the first pair at fault.
+-- Edges of a request file: too short, a body that is no multiple of 4, 256 and 257 pairs, the first pair at fault.
 use Prim.Native.Nat.{ℕ, zero, suc, ◌+◌, ◌≤◌}
 use mathlib.Core.Path.{◌≡◌, refl}
 use mathlib.Core.List.{[], ◌∷◌}

@@ -1,4 +1,4 @@
--- Document 01, "Names, requests, three values": one request within another where names and values are numbers from 0 to 65,535.
+-- One request within another where names and values are numbers from 0 to 65,535.
 use Rattle.ptacl.specs.Request.{Request, Within}
 use Rattle.files.specs.Encoding.{InRange}
 

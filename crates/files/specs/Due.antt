@@ -1,4 +1,4 @@
--- Document 02, C-12: what is due at a place of a policy file, and what stands there instead.
+-- What is due at a place of a policy file, and what stands there instead.
 use Rattle.std.specs.Prelude.{ℕ, ◌-◌, ◌<◌, ◌≡◌, List, [], ◌∷◌, ◌++◌, length, get_or, take, drop}
 use Rattle.ptacl.specs.Term.{Sort, policy, Node, tag_of, Shape, numbers, leaf, one, two, shape}
 use Rattle.files.specs.ReadPolicy.{other_sort, Byte, tag, other, unknown, byte_at}

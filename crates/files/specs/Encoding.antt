@@ -1,4 +1,4 @@
--- Document 01, "Files": the bytes of a term, a policy file, a request file, and the limits of both.
+-- The bytes of a term, a policy file, a request file, and the limits of both.
 use Rattle.std.specs.Prelude.{ℕ, ◌+◌, ◌/◌, ◌%◌, ◌<◌, ◌≤◌, max, ◌≡◌, true, List, [], ◌∷◌, length, get_or}
 use Rattle.ptacl.specs.Request.{Pair, Request, ascending}
 use Rattle.ptacl.specs.Term.{Sort, Term, Policy, tag_of, fold, nodes, atoms}

@@ -6,5 +6,11 @@ pub mod ReadRequest
 pub mod Places
 pub mod Due
 pub mod Memory
-pub mod Cases
+pub mod Faults
+pub mod Tags
+pub mod AtomsIn
+pub mod Reading
+pub mod Views
 pub mod Bounded
+pub mod Codes
+pub mod Ordered

@@ -1,4 +1,4 @@
--- Document 01, "Files": a term in prefix order. How it is written, and how it is read from left to right up to the first refusal, for
+-- A term in prefix order. How it is written, and how it is read from left to right up to the first refusal, for
 -- every form of writing. E tells what follows a term, which some forms write too; bytes do not.
 use Rattle.std.specs.Prelude.{ℕ, zero, suc, ◌+◌, List, ◌++◌}
 use Rattle.ptacl.specs.Request.{Pair}

@@ -1,4 +1,4 @@
--- Document 01, "Refusal numbers": reading a policy file, with the first refusal in the document's order.
+-- Reading a policy file, with the first refusal in order.
 use Rattle.std.specs.Prelude.{ℕ, ◌+◌, Bool, cond, List, [], ◌∷◌, eqb, ltb, length, get_or}
 use Rattle.ptacl.specs.Request.{Pair}
 use Rattle.ptacl.specs.Term.{Sort, target, policy, Policy, Node, an_atom, a_deny, an_allow, a_targeted, a_not, a_default, an_and, an_or, tag_of}
@@ -15,7 +15,7 @@ abbrev pub other_sort : Sort → Sort
 other_sort target = policy
 other_sort policy = target
 
--- what a byte is where a node of a sort is due; document 02, C-12: a tag of the sort, a tag of the other sort, or no tag at all
+-- what a byte is where a node of a sort is due: a tag of the sort, a tag of the other sort, or no tag at all
 pub data Byte (s : Sort) : Type 0 where
   tag : Node s → Byte s
   other : Node (other_sort s) → Byte s

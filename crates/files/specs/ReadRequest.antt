@@ -1,4 +1,4 @@
--- Document 01, "Refusal numbers": reading a request file, with the first refusal in the document's order.
+-- Reading a request file, with the first refusal in order.
 use Rattle.std.specs.Prelude.{ℕ, zero, suc, ◌+◌, ◌-◌, ◌/◌, ◌%◌, cond, List, [], ◌∷◌, ltb, length}
 use Rattle.ptacl.specs.Request.{Pair, Request, below_head}
 use Rattle.files.specs.Refusal.{Read, accepted, refused, dec16, unframed}

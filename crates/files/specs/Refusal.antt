@@ -1,4 +1,4 @@
--- Document 01, "Refusal numbers": what reading a file gives, and the refusals that both kinds of file share.
+-- What reading a file gives, and the refusals that both kinds of file share.
 use Rattle.std.specs.Prelude.{ℕ, ◌+◌, ◌*◌, ◌-◌, cond, List, eqb, ltb, length, get_or}
 
 -- what the file holds, or a refusal with its number and place

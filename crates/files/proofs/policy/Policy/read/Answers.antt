@@ -1,0 +1,20 @@
+-- At each return, what the reader tells of the body is what reading the file gives.
+use Rattle.std.proofs.Common.{rules}
+use Rattle.files.specs.Reading.{nothing}
+use Rattle.files.proofs.Whole.{whole_refused, whole_exceeded, whole_read, accepted_is}
+use Rattle.files.proofs.policy.Policy.read.Goals as goal
+
+pub returns-in-Err : goal.returns-in-Err
+returns-in-Err c = rw c.error.ensures (whole_refused nothing c.in_ok-reader.ensures.opened c.in-Err.ensures.0)
+
+pub returns-in_err-finish : goal.returns-in_err-finish
+returns-in_err-finish c =
+    let w = whole_exceeded nothing c.in_ok-reader.ensures.opened c.in_default.ensures c.in_err-finish.ensures in
+    search rules
+
+pub invariant_of-result : goal.invariant_of-result
+invariant_of-result c =
+    (accepted_is c.type_inv.file (whole_read nothing c.in_ok-reader.ensures.opened c.in_default.ensures c.in_ok-finish.ensures)).1
+
+pub returns : goal.returns
+returns c = (accepted_is c.type_inv.file (whole_read nothing c.in_ok-reader.ensures.opened c.in_default.ensures c.in_ok-finish.ensures)).0

@@ -1,0 +1,179 @@
+//! Reading the body of a policy file, node by node.
+
+ghost use Rattle.std.specs.Prelude.{◌≡◌, ◌+◌, ◌<◌, ◌≤◌, min, length, IfOk, IfErr, OnOk, OnErr};
+ghost use Rattle.ptacl.specs.Term.{policy};
+ghost use Rattle.files.specs.Prefix.{scan};
+ghost use Rattle.files.specs.ReadPolicy.{limit_of, head_at, pair_at, in_bytes, read_policy};
+ghost use Rattle.files.specs.Refusal.{refused};
+ghost use Rattle.files.specs.Faults.{fault_number, PolicyGives};
+ghost use Rattle.files.specs.Tags.{sort_of, tag_sort, pair_of};
+ghost use Rattle.files.specs.Reading.{Place, Limits, Opened, StandsAt, GoesOn, TellsTerm, node_in, told, nothing, ended};
+
+use crate::fault::{Fault, PolicyError};
+use crate::frame;
+use crate::pair::Pair;
+use crate::tag::{Shape, Sort, Tag};
+use std::marker::Model;
+
+/// How deep a policy may be.
+pub const DEEPEST: usize = 32;
+
+/// Whether a node is within the limits, with this much depth left and so many nodes before it.
+pub fn limit(left: usize, nodes: usize) -> Result<(), Fault>
+    ensures { Limits result (limit_of 255 left nodes) }
+{
+    if left == 0 {
+        return Err(Fault::TooDeep);
+    }
+    if nodes >= 255 {
+        return Err(Fault::TooManyNodes);
+    }
+    Ok(())
+}
+
+/// How far a policy file has been read. A fault stands where the reader then is.
+// Not Copy: the kit has none for a struct with a lifetime and a model; `again` stands for it.
+#[derive(Drop)]
+pub struct Reader<'a> {
+    bytes: &'a [u8],
+    at: usize,
+    nodes: usize,
+}
+
+impl<'a> Model for Reader<'a> {
+    ghost use Rattle.std.specs.Prelude.{◌≤◌, length};
+    ghost use Rattle.files.specs.Reading.{Place};
+
+    ghost Value = { Place };
+
+    ghost view = { λ r. record { bytes = r.bytes.now; at = r.at; nodes = r.nodes } };
+
+    ghost invariant = { λ r. r.at ≤ length r.bytes.now };
+}
+
+impl<'a> Reader<'a> {
+    /// Stands at a place, or at the end if that comes first, with so many nodes before it.
+    pub fn new(bytes: &'a [u8], at: usize, nodes: usize) -> Reader<'a>
+        ensures { result ≡ record { bytes = bytes.now; at = min at (length bytes.now); nodes = nodes } }
+    {
+        Reader {
+            bytes,
+            at: at.min(bytes.len()),
+            nodes,
+        }
+    }
+
+    /// Stands at the body of a file whose frame is right.
+    pub fn open(file: &'a [u8]) -> Result<Reader<'a>, PolicyError>
+        ensures opened { IfOk result (Opened file.now) }
+        ensures refused { IfErr result (λ e. read_policy file.now ≡ refused (fault_number e.fault) e.place) }
+    {
+        frame::body_of(file)?;
+        Ok(Reader::new(file, 3, 0))
+    }
+
+    /// Another reader that stands where this one does, to read the same bytes once more.
+    pub fn again(&self) -> Reader<'a>
+        ensures { result ≡ self.now }
+    {
+        Reader {
+            bytes: self.bytes,
+            at: self.at,
+            nodes: self.nodes,
+        }
+    }
+
+    /// Where the reader stands.
+    pub fn at(&self) -> usize
+        ensures { result ≡ self.now.at }
+    {
+        self.at
+    }
+
+    /// The error of a fault that stands here.
+    pub fn error(&self, fault: Fault) -> PolicyError
+        ensures { result ≡ record { fault = fault; place = self.now.at } }
+    {
+        PolicyError {
+            fault,
+            place: self.at,
+        }
+    }
+
+    /// Reads the tag of a node of a sort, with this much depth left.
+    #[tactic(auto, using(crate::proofs::Nodes::node_laws))]
+    pub fn node(&mut self, sort: Sort, left: usize) -> Result<Tag, Fault>
+        ensures gives { StandsAt (λ tag. tag) result self.new.at
+            (node_in (head_at 255 self.old.bytes (sort_of sort) left self.old.at self.old.nodes)) }
+        ensures sort { IfOk result (λ tag. tag_sort tag ≡ sort) }
+        ensures ok { OnOk result ((self.new ≡ record self.old { at = self.old.at + 1; nodes = self.old.nodes + 1 }) × (0 < left)) }
+        ensures err { OnErr result (self.new ≡ self.old) }
+    {
+        let Some(&byte) = self.bytes.get(self.at) else {
+            return Err(Fault::Ends);
+        };
+        let Ok(tag) = Tag::try_from(byte) else {
+            return Err(Fault::NoTag);
+        };
+        if !tag.is_of(sort) {
+            return Err(Fault::OtherSort);
+        }
+        limit(left, self.nodes)?;
+        self.at += 1;
+        self.nodes += 1;
+        Ok(tag)
+    }
+
+    /// Reads an atom's numbers.
+    #[tactic(auto, unfolding(crate::specs::ReadPolicy::pair_at))]
+    pub fn pair(&mut self) -> Result<Pair, Fault>
+        ensures { GoesOn pair_of result self.old self.new (told (λ x. x) (pair_at self.old.bytes self.old.at self.old.nodes)) }
+    {
+        let Some(bytes) = self.bytes[self.at..].first_chunk::<4>() else {
+            self.at = self.bytes.len();
+            return Err(Fault::Ends);
+        };
+        let pair = Pair::from(*bytes);
+        self.at += 4;
+        Ok(pair)
+    }
+
+    /// Goes past a term of at most `left` levels.
+    #[tactic(auto, using(crate::proofs::Terms::term_more))]
+    pub fn term(&mut self, sort: Sort, left: usize) -> Result<(), Fault>
+        ensures { TellsTerm {s = sort_of sort} (λ x. x) nothing left result self.old self.new }
+    {
+        match self.node(sort, left)?.shape() {
+            Shape::Numbers => {
+                self.pair()?;
+                Ok(())
+            }
+            Shape::Leaf => Ok(()),
+            Shape::One => self.term(sort, left - 1),
+            Shape::Two(first) => {
+                self.term(first, left - 1)?;
+                self.term(sort, left - 1)
+            }
+        }
+    }
+
+    /// Whether the file ends here, as it must behind the policy.
+    pub fn end(&self) -> Result<(), Fault>
+        ensures { StandsAt (λ x. x) result self.now.at (ended self.now) }
+    {
+        if self.at < self.bytes.len() {
+            return Err(Fault::Excess);
+        }
+        Ok(())
+    }
+
+    /// The same, with the place.
+    pub fn finish(&self) -> Result<(), PolicyError>
+        ensures { PolicyGives (λ x. x) result (ended self.now) }
+    {
+        match self.end() {
+            Ok(()) => Ok(()),
+            Err(fault) => Err(self.error(fault)),
+        }
+    }
+}
