@@ -1,3 +1,1 @@
-pub mod Ordered
 pub mod Worth
-pub mod Walked

@@ -1,12 +1,12 @@
 -- What a term comes to, as one number for both sorts, and what a node makes of such numbers: for every engine that evaluates.
-use Rattle.std.specs.Prelude.{ℕ, ◌+◌, ◌≡◌, List}
-use Rattle.ptacl.specs.Value.{v1, v0, not_v, default_v, and_v, or_v}
-use Rattle.ptacl.specs.Values.{single, each, each2, code, set_of}
-use Rattle.ptacl.specs.Cases.{Targeted}
+use Rattle.std.specs.Prelude.{ℕ, ◌==◌, if◌then◌else◌}
+use Rattle.ptacl.specs.Value.{Value, v1, v0, v_u, not_v, default_v, and_v, or_v}
+use Rattle.ptacl.specs.Values.{single, each, each2, under, code, set_of}
 use Rattle.ptacl.specs.Request.{Request}
-use Rattle.ptacl.specs.Term.{Sort, target, policy, Term, Node, an_atom, a_deny, an_allow, a_targeted, a_not, a_default, an_and, an_or}
+use Rattle.ptacl.specs.Term.{Sort, target, policy, Term}
 use Rattle.ptacl.specs.Meaning.{Meaning, atom_at, eval}
-use Rattle.files.specs.Refusal.{dec16}
+use Rattle.files.specs.Reading.{Steps}
+use Rattle.files.specs.declared.tag.Tag.{Tag}
 
 -- what a term comes to, as the code of a set: a target's is that of the set of its value alone
 abbrev pub code_of : (s : Sort) → Meaning s → ℕ
@@ -16,17 +16,25 @@ code_of policy x = code x
 abbrev pub worth : Request → {s : Sort} → Term s → ℕ
 worth q {s} t = code_of s (eval t q)
 
--- so of the atom whose numbers stand at a place
-abbrev pub atom_code : Request → List ℕ → ℕ → ℕ
-atom_code q b at = code (single (atom_at q (dec16 b at) (dec16 b (at + 2))))
+-- the value of which a set alone has this code
+abbrev pub member : ℕ → Value
+member c = if c == 1 then v1 else if c == 2 then v0 else v_u
 
--- what a node makes of the sets below it, by codes: of the first, of the second, its own
-abbrev pub Made : {s : Sort} → Node s → ℕ → ℕ → ℕ → Type 0
-Made an_atom first second own = ⊥
-Made a_deny first second own = own ≡ code (single v0)
-Made an_allow first second own = own ≡ code (single v1)
-Made a_targeted first second own = Targeted first second own
-Made (a_not s) first second own = own ≡ code (each not_v (set_of first))
-Made (a_default s) first second own = own ≡ code (each default_v (set_of first))
-Made (an_and s) first second own = own ≡ code (each2 and_v (set_of first) (set_of second))
-Made (an_or s) first second own = own ≡ code (each2 or_v (set_of first) (set_of second))
+-- what a node makes of the codes below it
+abbrev pub leaf_code : Tag → ℕ
+leaf_code Tag.Allow = code (single v1)
+leaf_code tag = code (single v0)
+
+abbrev pub one_code : Tag → ℕ → ℕ
+one_code Tag.TargetNot c = code (each not_v (set_of c))
+one_code Tag.PolicyNot c = code (each not_v (set_of c))
+one_code tag c = code (each default_v (set_of c))
+
+abbrev pub two_code : Tag → ℕ → ℕ → ℕ
+two_code Tag.Targeted c d = code (under (member c) (set_of d))
+two_code Tag.TargetAnd c d = code (each2 and_v (set_of c) (set_of d))
+two_code Tag.PolicyAnd c d = code (each2 and_v (set_of c) (set_of d))
+two_code tag c d = code (each2 or_v (set_of c) (set_of d))
+
+abbrev pub worth_steps : Request → Steps ℕ
+worth_steps q = record { numbers = λ n v. code (single (atom_at q n v)); leaf = leaf_code; one = one_code; two = two_code }
