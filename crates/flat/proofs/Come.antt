@@ -1,34 +1,37 @@
--- The walk over the nodes: its start, one step by the shape of the node, its end.
-use Prim.Native.Nat.{ℕ, suc, ◌+◌, ◌<◌, ◌≤◌}
+-- The walk over the nodes: its start, one step by the node's tag, its end.
+use Prim.Native.Nat.{ℕ, ◌+◌, ◌<◌, ◌≤◌}
 use mathlib.Core.Path.{◌≡◌, refl, sym, ap, subst, ◌∙◌}
-use mathlib.Core.List.{List, [], ◌∷◌, ◌++◌, map}
-use native.Mathlib.Nat.{add_assoc}
+use mathlib.Core.List.{List, [], ◌∷◌, ◌++◌, append-nil, append_assoc, map}
 use native.Mathlib.Numerals.{add-one}
 use native.Mathlib.Omega.{arith}
-use lib.ListN.{length, drop, set, get_or, length-append, length-drop, length-map, length-set, drop_of_length-le}
-use lib.Seq.{drop-cons}
-use Rattle.ptacl.specs.Values.{code}
+use lib.ListN.{length, drop, get_or, length-append, length-map}
+use lib.Seq.{get_or-append_seam}
+use Rattle.std.proofs.lemmas.List.{length_push}
+use Rattle.ptacl.specs.Values.{single, code}
 use Rattle.ptacl.specs.Request.{Request}
-use Rattle.ptacl.specs.Term.{Sort, Term, Policy, nodes, Node, tag_of, Shape, numbers, leaf, one, two, shape}
+use Rattle.ptacl.specs.Term.{Sort, target, policy, Term, Policy, nodes, Node, an_atom, a_deny, an_allow, a_targeted, a_not, a_default, an_and, an_or, tag_of, Shape, numbers, leaf, one, two, shape}
 use Rattle.ptacl.specs.Meaning.{eval}
 use Rattle.ptacl.proofs.Finite.{tag_sort}
 use Rattle.files.specs.Encoding.{enc, IsPolicy}
+use Rattle.files.specs.Tags.{tag_named, tag_shape, byte_of}
+use Rattle.files.specs.Refusal.{dec16}
+use Rattle.files.specs.Places.{At}
+use Rattle.files.specs.declared.tag.Tag.{Tag}
+use Rattle.files.specs.declared.tag.Sort.{Sort as SortC}
+use Rattle.files.specs.declared.tag.Shape.{Shape as ShapeC}
+use Rattle.files.proofs.Terms.{Comes}
 use Rattle.files.proofs.SingleByte.{same_node}
 use Rattle.files.proofs.View.{as_node}
-use Rattle.evaluate.specs.Worth.{worth, atom_code, Made}
-use Rattle.evaluate.proofs.Worth.{Owns, owns}
+use Rattle.evaluate.specs.Worth.{worth, worth_steps, member}
+use Rattle.evaluate.proofs.Worth.{owns, member_single}
 use Rattle.flat.specs.Places.{behind, place_of, Noted}
-use Rattle.flat.specs.Finished.{Subterm, sub, enc_all, worth_of, Come, Next}
-use Rattle.flat.specs.declared.walk.Stack.{Stack}
-use Rattle.flat.proofs.Lists.{drop_put}
-use Rattle.flat.proofs.Root.{Built, root, starts, same_row}
-use Rattle.flat.proofs.Row.{first_byte, behind_first, row_bytes, row_last, next_at}
-
-cons : {x y : ℕ} {xs ys : List ℕ} → x ∷ xs ≡ y ∷ ys → (x ≡ y) × (xs ≡ ys)
-cons e = (cc, cc)
+use Rattle.flat.specs.Taken.{terms_of, bytes_of, shaped}
+use Rattle.flat.specs.Finished.{Subterm, sub, enc_all, worth_of, Finished, Next}
+use Rattle.flat.proofs.Root.{Built, root, same_row}
+use Rattle.flat.proofs.Row.{first_byte, behind_first, row_bytes, row_last, next_at, next_inside}
 
 -- one node: known by its byte, its term is made of the subterms whose values are the first on the stack
-module _ {b : List ℕ} {at : ℕ} {q : Request} {s : Stack} {values : List ℕ} (n : Next b at) (c : Come b (behind b at) q s values) where
+module _ {b : List ℕ} {at : ℕ} {q : Request} {stack : List ℕ} (n : Next b at) (f : Finished b (behind b at) q stack) where
   record Here {r : Sort} (k : Node r) : Type 0 where
     term : Term r
     rest : List Subterm
@@ -36,16 +39,15 @@ module _ {b : List ℕ} {at : ℕ} {q : Request} {s : Stack} {values : List ℕ}
     bytes : drop at b ≡ enc term ++ enc_all rest
     room : length rest < 32
     built : Built (shape k) term parts
-    entries : s.own ∷ drop s.top values ≡ map (worth_of q) (parts ++ rest) ++ (0 ∷ [])
+    values : stack ≡ map (worth_of q) (parts ++ rest)
 
-  its_stack : c.stack ≡ map (worth_of q) ((root n.term).parts ++ n.rest)
+  its_stack : stack ≡ map (worth_of q) ((root n.term).parts ++ n.rest)
   unfolding enc_all
   its_stack =
-      let e : c.finished.subterms ≡ (root n.term).parts ++ n.rest =
-      same_row _ _ (sym c.finished.bytes ∙ behind_first b at (sub n.term ∷ n.rest) n.bytes) in
-      c.finished.values ∙ ap (map (worth_of q)) e
+      let e : f.subterms ≡ (root n.term).parts ++ n.rest = same_row _ _ (sym f.bytes ∙ behind_first b at (sub n.term ∷ n.rest) n.bytes) in
+      f.values ∙ ap (map (worth_of q)) e
 
-  pub its_byte : get_or b at 0 ≡ tag_of (root n.term).node
+  its_byte : get_or b at 0 ≡ tag_of (root n.term).node
   its_byte = first_byte b at n.term (enc_all n.rest) n.bytes
 
   here : {r : Sort} (k : Node r) → get_or b at 0 ≡ tag_of k → Here k
@@ -59,140 +61,155 @@ module _ {b : List ℕ} {at : ℕ} {q : Request} {s : Stack} {values : List ℕ}
         bytes = n.bytes;
         room = n.room;
         built = (root n.term).built;
-        entries = c.lies.entries ∙ ap (λ z. z ++ (0 ∷ [])) its_stack;
+        values = its_stack;
       })
 
       go : (r : Sort) → n.sort ≡ r → (k : Node r) → tag_of (root n.term).node ≡ tag_of k → Here k
       go r p = subst (λ r. (k : Node r) → tag_of (root n.term).node ≡ tag_of k → Here k) p one_sort
 
-  pub inside : at < length b
-  inside = let w = starts n.term in
-      omega (arith, length-drop at b, ap length n.bytes, ap (λ z. length (z ++ enc_all n.rest)) w.1)
+  -- what the step asks of the bytes and the stack, and what it leaves
+  pub record Step (tag : Tag) (g : ShapeC) : Type 0 where
+    pub inside : at + bytes_of g ≤ length b
+    pub below : terms_of g ≤ length stack
+    pub room : length stack < 32 + terms_of g
+    pub after : Finished b at q (shaped (worth_steps q) tag (dec16 b (at + 1), dec16 b (at + 3)) stack g)
 
-  -- its value is on the stack, in the place of those of its subterms
-  module _ {r : Sort} {k : Node r} (h : Here k) where
-    taken : {p : Stack} {w : List ℕ} → p.own ≡ worth q h.term → length w ≡ 32 → p.top ≤ 32
-        → drop p.top w ≡ map (worth_of q) h.rest ++ (0 ∷ []) → Come b at q p w
-    unfolding enc_all
-    taken {p} e z l d = record {
-      stack = p.own ∷ map (worth_of q) h.rest;
-      finished = record {
-        subterms = sub h.term ∷ h.rest;
-        bytes = h.bytes;
-        values = ap (λ x. x ∷ map (worth_of q) h.rest) e;
-      };
-      lies = record { size = z; low = l; entries = ap (λ xs. p.own ∷ xs) d };
-    }
-
-    -- without subterms
-    module _ (none : h.parts ≡ []) where
-      below : s.own ∷ drop s.top values ≡ map (worth_of q) h.rest ++ (0 ∷ [])
-      below = h.entries ∙ ap (λ z. map (worth_of q) (z ++ h.rest) ++ (0 ∷ [])) none
-
-      room_above : (0 < s.top) × (s.top ≤ length values)
-      room_above = omega (
-        arith,
-        h.room,
-        ap length below,
-        length-append (map (worth_of q) h.rest) (0 ∷ []),
-        length-map h.rest (worth_of q),
-        length-drop s.top values,
-        c.lies.size,
-        c.lies.low,
-      )
-
-      pushed : {p : Stack} {w : List ℕ} → p.own ≡ worth q h.term → p.top + 1 ≡ s.top → w ≡ set values p.top s.own → Come b at q p w
-      pushed {p} e t f =
-          let i : suc p.top ≡ s.top = omega arith in
-          let l : p.top < length values = omega (arith, room_above) in
-          taken e (ap length f ∙ length-set values p.top s.own ∙ c.lies.size) (omega (arith, c.lies.low))
-          (ap (drop p.top) f ∙ drop_put values p.top s.own l ∙ ap (λ m. s.own ∷ drop m values) i ∙ below)
-
-  -- by the shape of the node
   module _ {r : Sort} (k : Node r) (e : get_or b at 0 ≡ tag_of k) where
-    built_as : {g : Shape r} → shape k ≡ g → Built g (here k e).term (here k e).parts
-    built_as x = subst (λ g. Built g (here k e).term (here k e).parts) x (here k e).built
+    its : Here k
+    its = here k e
 
-    module _ {f : ℕ → ℕ → Term r} (x : shape k ≡ numbers f) where
-      pub numbers_room : (0 < s.top) × (s.top ≤ length values)
-      numbers_room = room_above (here k e) (built_as x).3
+    -- the term's value is on the stack, in the place of those of its subterms
+    now_finished : {v : ℕ} → v ≡ worth q its.term → Finished b at q (v ∷ map (worth_of q) its.rest)
+    unfolding enc_all
+    now_finished x = record { subterms = sub its.term ∷ its.rest; bytes = its.bytes; values = ap (λ x. x ∷ map (worth_of q) its.rest) x }
 
-      pub numbers_inside : at + 4 < length b
-      numbers_inside = as_node {b = b} {i = at} k (λ t. at + 4 < length b) e (rw x (λ i. i)) (here k e).term (record { rest = enc_all (here k e).rest; split = (here k e).bytes })
+    built_as : {g : Shape r} → shape k ≡ g → Built g its.term its.parts
+    built_as x = subst (λ g. Built g its.term its.parts) x its.built
 
-      pub came_numbers : {p : Stack} {w : List ℕ} → p.own ≡ atom_code q b (at + 1)
-          → p.top + 1 ≡ s.top → w ≡ set values p.top s.own → Come b at q p w
-      came_numbers {p} m t v = pushed (here k e) (built_as x).3 its t v
-        where
-          its : p.own ≡ worth q (here k e).term
-          its = as_node {b = b} {i = at} k (λ t. p.own ≡ worth q t) e (rw x (λ i. m ∙ rw (← add_assoc at 1 2) (subst (Owns q k) x (owns q k) _ _))) (here k e).term
-              (record { rest = enc_all (here k e).rest; split = (here k e).bytes })
+    law_as : {g : Shape r} → shape k ≡ g → Comes (λ s t. worth q t) (worth_steps q) k g
+    law_as x = subst (λ g. Comes (λ s t. worth q t) (worth_steps q) k g) x (owns q r k)
 
-    module _ {t : Term r} (x : shape k ≡ leaf t) where
-      pub leaf_room : (0 < s.top) × (s.top ≤ length values)
-      leaf_room = room_above (here k e) (built_as x).1
+    by_numbers : {f : ℕ → ℕ → Term r} → shape k ≡ numbers f → Step (tag_named k) ShapeC.Numbers
+    by_numbers {f} x =
+        let u = built_as x in
+        let v : stack ≡ map (worth_of q) its.rest = its.values ∙ ap (λ z. map (worth_of q) (z ++ its.rest)) u.3 in
+        let here : At b at (enc its.term) = record { rest = enc_all its.rest; split = its.bytes } in
+        let w : worth q its.term ≡ (worth_steps q).numbers (dec16 b (at + 1)) (dec16 b (at + 3)) =
+        as_node {b = b} {i = at} k (λ t. worth q t ≡ (worth_steps q).numbers (dec16 b (at + 1)) (dec16 b (at + 3))) e
+        (rw x (λ i. law_as x (dec16 b (at + 1)) (dec16 b (at + 3)))) its.term here in
+        let i : at + 4 < length b = as_node {b = b} {i = at} k (λ t. at + 4 < length b) e (rw x (λ i. i)) its.term here in
+        record {
+          inside = omega arith;
+          below = omega arith;
+          room = omega (arith, its.room, ap length v, length-map its.rest (worth_of q));
+          after = subst (λ z. Finished b at q ((worth_steps q).numbers (dec16 b (at + 1)) (dec16 b (at + 3)) ∷ z)) (sym v) (now_finished (sym w));
+        }
 
-      pub came_leaf : {p : Stack} {w : List ℕ} {own : ℕ} → Made k 0 0 own → p.own ≡ own → p.top + 1 ≡ s.top → w ≡ set values p.top s.own
-          → Come b at q p w
-      came_leaf {own = own} m o = pushed (here k e) (built_as x).1 (o ∙ subst (Owns q k) x (owns q k) 0 0 own m ∙ ap (λ z. worth q z) (sym (built_as x).0))
+    by_leaf : {t : Term r} → shape k ≡ leaf t → Step (tag_named k) ShapeC.Leaf
+    by_leaf x =
+        let u = built_as x in
+        let v : stack ≡ map (worth_of q) its.rest = its.values ∙ ap (λ z. map (worth_of q) (z ++ its.rest)) u.1 in
+        record {
+          inside = omega (arith, next_inside n);
+          below = omega arith;
+          room = omega (arith, its.room, ap length v, length-map its.rest (worth_of q));
+          after = subst (λ z. Finished b at q ((worth_steps q).leaf (tag_named k) ∷ z)) (sym v)
+              (now_finished (sym (law_as x) ∙ ap (λ z. worth q z) (sym u.0)));
+        }
 
-    -- the first of its subterms stands at the top of the stack
-    module _ {f : Term r → Term r} (x : shape k ≡ one f) where
-      one_entries : s.own ∷ drop s.top values ≡ worth q (built_as x).0 ∷ (map (worth_of q) (here k e).rest ++ (0 ∷ []))
-      one_entries = (here k e).entries ∙ ap (λ z. map (worth_of q) (z ++ (here k e).rest) ++ (0 ∷ [])) (built_as x).2
+    by_one : {f : Term r → Term r} → shape k ≡ one f → Step (tag_named k) ShapeC.One
+    by_one x =
+        let u = built_as x in
+        let v : stack ≡ worth q u.0 ∷ map (worth_of q) its.rest = its.values ∙ ap (λ z. map (worth_of q) (z ++ its.rest)) u.2 in
+        record {
+          inside = omega (arith, next_inside n);
+          below = omega (arith, ap length v);
+          room = omega (arith, its.room, ap length v, length-map its.rest (worth_of q));
+          after = subst (λ z. Finished b at q ((worth_steps q).one (tag_named k) (get_or z 0 0) ∷ drop 1 z)) (sym v)
+              (now_finished (sym (law_as x u.0) ∙ ap (λ z. worth q z) (sym u.1)));
+        }
 
-      pub came_one : {p : Stack} {own : ℕ} → Made k s.own 0 own → p.own ≡ own → p.top ≡ s.top → Come b at q p values
-      came_one {own = own} m o t =
-          let u = built_as x in
-          let v = cons one_entries in
-          taken (here k e)
-          (o ∙ subst (Owns q k) x (owns q k) u.0 0 own (subst (λ z. Made k z 0 own) v.0 m) ∙ ap (λ z. worth q z) (sym u.1))
-          c.lies.size (omega (arith, c.lies.low)) (ap (λ i. drop i values) t ∙ v.1)
+    two_values : {g : Sort} {f : Term g → Term r → Term r} (x : shape k ≡ two g f)
+        → stack ≡ worth q (built_as x).0 ∷ (worth q (built_as x).1 ∷ map (worth_of q) its.rest)
+    two_values x = its.values ∙ ap (λ z. map (worth_of q) (z ++ its.rest)) (built_as x).3
 
-    -- and the second below it
-    module _ {g : Sort} {f : Term g → Term r → Term r} (x : shape k ≡ two g f) where
-      two_entries : s.own ∷ drop s.top values
-          ≡ worth q (built_as x).0 ∷ (worth q (built_as x).1 ∷ (map (worth_of q) (here k e).rest ++ (0 ∷ [])))
-      two_entries = (here k e).entries ∙ ap (λ z. map (worth_of q) (z ++ (here k e).rest) ++ (0 ∷ [])) (built_as x).3
+    by_two : (first : SortC) {g : Sort} {f : Term g → Term r → Term r} → shape k ≡ two g f → Step (tag_named k) (ShapeC.Two first)
+    by_two first x =
+        let u = built_as x in
+        let v = two_values x in
+        record {
+          inside = omega (arith, next_inside n);
+          below = omega (arith, ap length v);
+          room = omega (arith, its.room, ap length v, length-map its.rest (worth_of q));
+          after = subst (λ z. Finished b at q ((worth_steps q).two (tag_named k) (get_or z 0 0) (get_or z 1 0) ∷ drop 2 z)) (sym v)
+              (now_finished (sym (law_as x u.0 u.1) ∙ ap (λ z. worth q z) (sym u.2)));
+        }
 
-      pub two_room : (s.top < length values) × (s.top < 32)
-      two_room = omega (arith, ap length two_entries, length-drop s.top values, c.lies.size)
+  pub by_tag : (tag : Tag) → get_or b at 0 ≡ byte_of tag → Step tag (tag_shape tag)
+  by_tag Tag.TargetAtom e = by_numbers an_atom e refl
+  by_tag Tag.Deny e = by_leaf a_deny e refl
+  by_tag Tag.Allow e = by_leaf an_allow e refl
+  by_tag Tag.TargetNot e = by_one (a_not target) e refl
+  by_tag Tag.PolicyNot e = by_one (a_not policy) e refl
+  by_tag Tag.TargetOptional e = by_one (a_default target) e refl
+  by_tag Tag.DenyByDefault e = by_one (a_default policy) e refl
+  by_tag Tag.Targeted e = by_two a_targeted e SortC.Target refl
+  by_tag Tag.TargetAnd e = by_two (an_and target) e SortC.Target refl
+  by_tag Tag.PolicyAnd e = by_two (an_and policy) e SortC.Policy refl
+  by_tag Tag.TargetOr e = by_two (an_or target) e SortC.Target refl
+  by_tag Tag.PolicyOr e = by_two (an_or policy) e SortC.Policy refl
 
-      pub came_two : {p : Stack} {d own : ℕ} → Made k s.own d own → d ≡ get_or values s.top 0 → p.own ≡ own → p.top ≡ s.top + 1
-          → Come b at q p values
-      came_two {p} {d} {own} m f o t =
-          let u = built_as x in
-          let v = cons two_entries in
-          let y = cons (sym (drop-cons values s.top 0 two_room.0) ∙ v.1) in
-          let i : p.top ≡ suc s.top = omega arith in
-          taken (here k e)
-          (o ∙ subst (Owns q k) x (owns q k) u.0 u.1 own
-          (subst (λ z. Made k z (worth q u.1) own) v.0 (subst (λ z. Made k s.own z own) (f ∙ y.0) m)) ∙ ap (λ z. worth q z) (sym u.2))
-          c.lies.size (omega (arith, two_room)) (ap (λ i. drop i values) i ∙ y.1)
+  -- a targeted node's target comes to a set of one value
+  pub aimed : get_or b at 0 ≡ byte_of Tag.Targeted → get_or stack 0 0 ≡ code (single (member (get_or stack 0 0)))
+  aimed e =
+      let t = (built_as a_targeted e refl).0 in
+      rw (two_values a_targeted e refl) (ap (λ v. code (single v)) (sym (member_single (eval t q))))
 
--- before the first step nothing is finished, and after the last the whole is
-module _ {b : List ℕ} {p : Policy} (file : IsPolicy b p) {q : Request} {s : Stack} {values : List ℕ} where
-  pub come_start : s.own ≡ 0 → s.top ≡ 32 → length values ≡ 32 → Come b (place_of b (nodes p)) q s values
+-- the whole walk: between two steps the nodes still to come are the first ones, and those behind them are finished
+pub record Left (b places : List ℕ) (q : Request) (rest stack : List ℕ) : Type 0 where
+  pub taken : List ℕ
+  pub split : places ≡ rest ++ taken
+  pub finished : Finished b (place_of b (length rest)) q stack
+
+module _ {b places : List ℕ} (w : Noted b places) {q : Request} where
+  pub walk_start : {rest stack : List ℕ} → rest ≡ places → stack ≡ [] → Left b places q rest stack
   unfolding enc_all
-  come_start e t z = let l : length values ≤ s.top = omega arith in record {
-    stack = [];
-    finished = record { subterms = []; bytes = row_bytes file (nodes p) ∙ ap enc_all (row_last p); values = refl };
-    lies = record { size = z; low = omega arith; entries = rw (e, drop_of_length-le values l) };
-  }
+  walk_start {rest} r s =
+      let e : place_of b (length rest) ≡ place_of b (nodes w.term) = ap (λ xs. place_of b (length xs)) r ∙ ap (place_of b) w.nodes.counted in
+      rw s (record {
+        taken = [];
+        split = sym r ∙ sym (append-nil rest);
+        finished = record {
+          subterms = [];
+          bytes = ap (λ i. drop i b) e ∙ row_bytes w.file (nodes w.term) ∙ ap enc_all (row_last w.term);
+          values = refl;
+        };
+      })
 
-  pub come_end : Come b 3 q s values → s.own ≡ code (eval p q)
-  come_end c =
-      let e : c.finished.subterms ≡ sub p ∷ [] = same_row _ _ (sym c.finished.bytes ∙ row_bytes file 0) in
-      (cons (c.lies.entries ∙ ap (λ z. z ++ (0 ∷ [])) (c.finished.values ∙ ap (map (worth_of q)) e))).0
+  module _ {rest : List ℕ} (next : List ℕ) {stack : List ℕ} (at : ℕ) (l : Left b places q rest stack) (e : rest ≡ next ++ at ∷ []) where
+    whole : places ≡ next ++ (at ∷ l.taken)
+    whole = l.split ∙ ap (λ xs. xs ++ l.taken) e ∙ append_assoc next (at ∷ []) l.taken
 
--- between two steps: the k-th node's place is that in the list, and behind it is the next one's
-module _ {b places : List ℕ} (w : Noted b places) {k : ℕ} (l : k < length places) where
-  pub noted_next : Next b (get_or places k 0)
-  noted_next = subst (Next b) (sym (w.nodes.place k l)) (next_at w.file k (omega (arith, w.nodes.counted)))
+    below : length next < length places
+    below = omega (arith, ap length whole, length-append next (at ∷ l.taken))
 
-  module _ {q : Request} {s : Stack} {values : List ℕ} where
-    pub noted_before : Come b (place_of b (k + 1)) q s values → Come b (behind b (get_or places k 0)) q s values
-    noted_before c = subst (λ i. Come b (behind b i) q s values) (sym (w.nodes.place k l)) (rw add-one at c)
+    here_is : at ≡ place_of b (length next)
+    here_is = sym (get_or-append_seam next at l.taken 0) ∙ ap (λ xs. get_or xs (length next) 0) (sym whole) ∙ w.nodes.place (length next) below
 
-    pub noted_after : Come b (get_or places k 0) q s values → Come b (place_of b k) q s values
-    noted_after = subst (λ i. Come b i q s values) (w.nodes.place k l)
+    behind_is : place_of b (length rest) ≡ behind b at
+    behind_is = ap (λ xs. place_of b (length xs)) e ∙ ap (place_of b) (length_push next at) ∙ rw add-one refl ∙ ap (behind b) (sym here_is)
+
+    pub walk_node : Next b at
+    walk_node = subst (Next b) (sym here_is) (next_at w.file (length next) (omega (arith, w.nodes.counted, below)))
+
+    pub walk_before : Finished b (behind b at) q stack
+    walk_before = subst (λ i. Finished b i q stack) behind_is l.finished
+
+    pub walk_on : {after : List ℕ} → Finished b at q after → Left b places q next after
+    walk_on {after} f = record { taken = at ∷ l.taken; split = whole; finished = subst (λ i. Finished b i q after) here_is f }
+
+  pub walk_end : {p : Policy} {rest stack : List ℕ} → IsPolicy b p → Left b places q rest stack → length rest ≡ 0 → stack ≡ code (eval p q) ∷ []
+  walk_end {p} {stack = stack} file l e =
+      let f : Finished b 3 q stack = subst (λ n. Finished b (place_of b n) q stack) e l.finished in
+      let s : f.subterms ≡ sub p ∷ [] = same_row _ _ (sym f.bytes ∙ row_bytes file 0) in
+      f.values ∙ ap (map (worth_of q)) s

@@ -1,8 +1,6 @@
-pub mod Lists
 pub mod Root
 pub mod Row
 pub mod Come
-pub mod Opens
 pub mod Reading
-pub mod FlatFile
+pub mod Noting
 pub mod Worked

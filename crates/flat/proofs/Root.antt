@@ -13,8 +13,6 @@ use Rattle.ptacl.proofs.Finite.{at_node, tag_sort}
 use Rattle.files.specs.Encoding.{bytes, enc, depth}
 use Rattle.files.proofs.Prefix.{Adds, adds}
 use Rattle.files.proofs.PolicyComplete.{enc_prefix_free}
-use Rattle.files.specs.Cases.{shape_name}
-use Rattle.files.specs.declared.policy.Shape.{Shape as ShapeC}
 use Rattle.flat.specs.Places.{behind}
 use Rattle.flat.specs.Finished.{Subterm, sub, enc_all}
 
@@ -41,17 +39,17 @@ root (and {s = s} t u) = record { node = an_and s; parts = sub t ∷ sub u ∷ [
 root (or {s = s} t u) = record { node = an_or s; parts = sub t ∷ sub u ∷ []; built = (t, u, refl, refl) }
 
 -- how many bytes a node has before what is below it
-abbrev pub width_of : ShapeC → ℕ
-width_of ShapeC.Numbers = 5
-width_of ShapeC.Leaf = 1
-width_of ShapeC.One = 1
-width_of (ShapeC.Two r) = 1
+abbrev pub width_of : {s : Sort} → Shape s → ℕ
+width_of (numbers f) = 5
+width_of (leaf t) = 1
+width_of (one f) = 1
+width_of (two r f) = 1
 
 -- the place behind a node, which is known by its byte
-pub behind_node : {s : Sort} (k : Node s) (b : List ℕ) (at : ℕ) → get_or b at 0 ≡ tag_of k → behind b at ≡ at + width_of (shape_name (shape k))
+pub behind_node : {s : Sort} (k : Node s) (b : List ℕ) (at : ℕ) → get_or b at 0 ≡ tag_of k → behind b at ≡ at + width_of (shape k)
 behind_node k b at e =
     ap (λ x. at + cond (eqb x (tag_of an_atom)) 5 1) e
-    ∙ ap (λ n. at + n) (eqb-true _ _ (at_node (λ s n. eqb (cond (eqb (tag_of n) (tag_of an_atom)) 5 1) (width_of (shape_name (shape n)))) refl k))
+    ∙ ap (λ n. at + n) (eqb-true _ _ (at_node (λ s n. eqb (cond (eqb (tag_of n) (tag_of an_atom)) 5 1) (width_of (shape n))) refl k))
 
 -- how many nodes they have
 abbrev pub nodes_all : List Subterm → ℕ
@@ -72,7 +70,7 @@ module _ {s : Sort} (k : Node s) (t : Term s) (ps : List Subterm) where
   starts_by (one f) law b = (_, ap (λ z. enc z) b.1 ∙ (law b.0 tt).0)
   starts_by (two r f) law b = (_, ap (λ z. enc z) b.2 ∙ (law b.0 b.1 tt).0)
 
-  opens_by : (g : Shape s) → Adds bytes k g → Built g t ps → (f : List Subterm) → drop (width_of (shape_name g)) (enc t ++ enc_all f) ≡ enc_all (ps ++ f)
+  opens_by : (g : Shape s) → Adds bytes k g → Built g t ps → (f : List Subterm) → drop (width_of g) (enc t ++ enc_all f) ≡ enc_all (ps ++ f)
   unfolding enc enc_all
   opens_by (numbers h) law b f = rw (b.2, b.3, (law b.0 b.1 tt).0)
   opens_by (leaf u) law b f = rw (b.0, b.1, (law tt).0)
@@ -104,7 +102,7 @@ module _ {s : Sort} (t : Term s) where
   pub starts : (xs : List ℕ) × (enc t ≡ tag_of (root t).node ∷ xs)
   starts = starts_by its t (root t).parts (shape its) (adds bytes its) (root t).built
 
-  pub opens : (f : List Subterm) → drop (width_of (shape_name (shape (root t).node))) (enc t ++ enc_all f) ≡ enc_all ((root t).parts ++ f)
+  pub opens : (f : List Subterm) → drop (width_of (shape (root t).node)) (enc t ++ enc_all f) ≡ enc_all ((root t).parts ++ f)
   opens = opens_by its t (root t).parts (shape its) (adds bytes its) (root t).built
 
   pub root_nodes : nodes t ≡ 1 + nodes_all (root t).parts

@@ -6,12 +6,14 @@ use mathlib.Core.Bool.{cond}
 use mathlib.Core.List.{List, [], ◌∷◌, ◌++◌, append-nil, map}
 use native.Mathlib.Omega.{arith}
 use lib.Dec.{eqb}
-use lib.ListN.{length, drop, get_or, length-map}
+use lib.ListN.{length, drop, get_or, length-drop, length-map}
 use lib.Seq.{drop-nil, drop-drop}
 use Rattle.ptacl.specs.Request.{Request}
 use Rattle.ptacl.specs.Term.{Sort, Term, Policy, nodes, an_atom, tag_of, shape}
 use Rattle.files.specs.Encoding.{enc, depth, framed, policy_file, IsPolicy}
-use Rattle.files.specs.Cases.{shape_name}
+use Rattle.files.specs.Tags.{byte_of}
+use Rattle.files.specs.declared.tag.Tag.{Tag}
+use Rattle.files.proofs.Nodes.{tagged}
 use Rattle.files.proofs.Places.{head}
 use Rattle.flat.specs.Places.{behind, place_of}
 use Rattle.flat.specs.Finished.{Subterm, sub, enc_all, worth_of, Finished, Next}
@@ -34,7 +36,7 @@ pub behind_first : (b : List ℕ) (at : ℕ) (f : List Subterm) → drop at b �
 unfolding enc_all
 behind_first b at [] e = let n : ℕ = cond (eqb (get_or b at 0) (tag_of an_atom)) 5 1 in sym (drop-drop n at b) ∙ ap (drop n) e ∙ drop-nil n
 behind_first b at (sub t ∷ f) e =
-    let n = width_of (shape_name (shape (root t).node)) in
+    let n = width_of (shape (root t).node) in
     ap (λ m. drop m b) (behind_node (root t).node b at (first_byte b at t (enc_all f) e)) ∙ sym (drop-drop n at b) ∙ ap (drop n) e ∙ opens t f
 
 -- those that begin behind the first k nodes of p and lie in no other that does so, from left to right
@@ -111,3 +113,11 @@ module _ {b : List ℕ} {p : Policy} (file : IsPolicy b p) where
       go : (f : List Subterm) → drop (place_of b k) b ≡ enc_all f → 0 < nodes_all f → length f ≤ 32 → Next b (place_of b k)
       go [] e n h = absurd (omega arith)
       go (sub {s = s} t ∷ f) e n h = record { sort = s; term = t; rest = f; bytes = e; room = omega arith }
+
+-- where a subterm's node stands there is a byte, and it is a tag
+module _ {b : List ℕ} {at : ℕ} (n : Next b at) where
+  pub next_inside : at < length b
+  next_inside = let w = starts n.term in omega (arith, length-drop at b, ap length n.bytes, ap (λ z. length (z ++ enc_all n.rest)) w.1)
+
+  pub next_tag : ((tag : Tag) → get_or b at 0 ≡ byte_of tag → ⊥) → ⊥
+  next_tag none = none _ (first_byte b at n.term (enc_all n.rest) n.bytes ∙ tagged (root n.term).node)

@@ -1,4 +1,4 @@
-pub mod Places
 pub mod Due
-pub mod Read
+pub mod Places
+pub mod Taken
 pub mod Finished

@@ -1,4 +1,4 @@
--- Document 02, C-14: the read nodes, by their places. An atom's numbers can spell nodes, so that bytes alone do not tell where nodes stand.
+-- The read nodes, by their places. An atom's numbers can spell nodes, so that bytes alone do not tell where nodes stand.
 use Rattle.std.specs.Prelude.{ℕ, zero, suc, ◌+◌, ◌<◌, ◌≡◌, cond, List, eqb, length, get_or}
 use Rattle.ptacl.specs.Term.{Policy, an_atom, tag_of, nodes}
 use Rattle.files.specs.Encoding.{IsPolicy}
@@ -11,6 +11,11 @@ behind b at = at + cond (eqb (get_or b at 0) (tag_of an_atom)) 5 1
 abbrev pub place_of : List ℕ → ℕ → ℕ
 place_of b zero = 3
 place_of b (suc k) = behind b (place_of b k)
+
+-- these are the places of the file's first nodes, so many
+pub record PlacesTo (b : List ℕ) (count : ℕ) (places : List ℕ) : Type 0 where
+  pub counted : length places ≡ count
+  pub place : (k : ℕ) → k < length places → get_or places k 0 ≡ place_of b k
 
 -- these are the places of the nodes of the policy whose file it is
 pub record Places (b : List ℕ) (p : Policy) (places : List ℕ) : Type 0 where

@@ -1,5 +1,9 @@
-// What a policy comes to for one request, without calls that nest: two loops, each with a stack of its own.
+//! What a policy comes to for a request, without calls that nest: one loop reads the policy and notes the places of its nodes, another goes
+//! over these from the last to the first. Each has a stack of its own.
 #![tactic(auto)]
 
-pub mod read;
-pub mod walk;
+mod policy;
+mod read;
+mod walk;
+
+pub use policy::FlatPolicy;

@@ -1,114 +1,154 @@
-// A policy that was read, from its last node to its first, with the values of the finished subterms on a stack.
-ghost use Rattle.std.specs.Prelude.{◌≡◌, map, ◌+◌, ◌≤◌, ◌<◌, length, set, get_or};
-ghost use Rattle.ptacl.specs.Values.{code};
-ghost use Rattle.ptacl.specs.Meaning.{eval};
-ghost use Rattle.ptacl.specs.Pairs.{unpacked};
+//! The nodes of a policy that was read, from the last to the first, with the sets of the finished subterms on a stack.
+
+ghost use Rattle.std.specs.Prelude.{◌≡◌, ◌+◌, ◌<◌, ◌≤◌, [], ◌∷◌, length, drop, slice_index};
 ghost use Rattle.ptacl.specs.Term.{Policy};
+ghost use Rattle.ptacl.specs.Meaning.{eval};
+ghost use Rattle.ptacl.specs.Values.{single, code};
 ghost use Rattle.files.specs.Encoding.{IsPolicy};
-ghost use Rattle.files.specs.Places.{numbers_of};
-ghost use Rattle.evaluate.specs.Ordered.{OrderedFile};
-ghost use Rattle.evaluate.specs.Worth.{atom_code};
+ghost use Rattle.files.specs.Tags.{byte_of, tag_shape};
+ghost use Rattle.files.specs.declared.tag.Tag.TheVariants.{Targeted};
+ghost use Rattle.evaluate.specs.Worth.{member};
 ghost use Rattle.flat.specs.Places.{behind, Noted};
-ghost use Rattle.flat.specs.Finished.{Next, Come};
+ghost use Rattle.flat.specs.Taken.{terms_of, bytes_of, taken};
+ghost use Rattle.flat.specs.Finished.{Finished, Next};
 
-use evaluate::order;
-use files::tags;
+use files::{Pair, Request, Tag};
 use ptacl::DecisionSet;
+use std::marker::Model;
 
-// The stack of values, each a set's code: the topmost, and where the others begin in the memory that is lent with it.
-// Below them all lies a 0, which was there before the first.
-#[derive(Clone, Copy)]
-pub struct Stack {
-    pub own: u8,
-    pub top: usize,
+/// The sets that the finished subterms come to, the one that was finished last on top. There are at most 32.
+// Not Copy: it lends memory to write.
+#[derive(Drop)]
+pub struct Stack<'a> {
+    // Apart from the others, which are lent: most nodes replace it, and so it need not pass through memory.
+    own: DecisionSet,
+
+    // The others stand from `top` on; the last is what `own` was before the first.
+    others: &'a mut [DecisionSet],
+    top: usize,
 }
 
-// A value goes onto the stack.
-fn push(stack: Stack, values: &mut [u8], own: DecisionSet) -> Stack
-    requires { (0 < stack.top) × (stack.top ≤ length values.old) }
-    ensures { (result.own ≡ own.code) × (result.top + 1 ≡ stack.top) × (values.new ≡ set values.old result.top stack.own) }
-{
-    let to = stack.top - 1;
-    values[to] = stack.own;
-    Stack {
-        own: own.code,
-        top: to,
+impl<'a> Model for Stack<'a> {
+    ghost use Rattle.std.specs.Prelude.{ℕ, ◌≡◌, ◌≤◌, ◌-◌, List, ◌∷◌, length, map, take, drop};
+
+    ghost Value = { List ℕ };
+
+    ghost view = { λ s. map (λ set. set.code) (take (32 - s.top) (s.own ∷ drop s.top s.others.now)) };
+
+    ghost invariant = { λ s. (s.top ≤ 32) × (length s.others.now ≡ 32) };
+}
+
+impl<'a> Stack<'a> {
+    /// An empty stack over memory for 32 sets.
+    fn new(others: &'a mut [DecisionSet]) -> Stack<'a>
+        requires { length others.old ≡ 32 }
+        ensures { result ≡ [] }
+    {
+        Stack {
+            own: DecisionSet::UNDEFINED,
+            others,
+            top: 32,
+        }
+    }
+
+    /// The topmost set.
+    fn first(&self) -> DecisionSet
+        requires { 0 < length self.now }
+        ensures { result.code ≡ slice_index self.now 0 }
+    {
+        self.own
+    }
+
+    /// The set below the topmost.
+    fn second(&self) -> DecisionSet
+        requires { 1 < length self.now }
+        ensures { result.code ≡ slice_index self.now 1 }
+    {
+        self.others[self.top]
+    }
+
+    /// A set goes onto the stack.
+    fn push(&mut self, set: DecisionSet)
+        requires { length self.old < 32 }
+        ensures { self.new ≡ set.code ∷ self.old }
+    {
+        self.top -= 1;
+        self.others[self.top] = self.own;
+        self.own = set;
+    }
+
+    /// The topmost set gives way to another.
+    fn replace(&mut self, set: DecisionSet)
+        requires { 0 < length self.old }
+        ensures { self.new ≡ set.code ∷ drop 1 self.old }
+    {
+        self.own = set;
+    }
+
+    /// The two topmost sets give way to one.
+    fn join(&mut self, set: DecisionSet)
+        requires { 1 < length self.old }
+        ensures { self.new ≡ set.code ∷ drop 2 self.old }
+    {
+        self.own = set;
+        self.top += 1;
     }
 }
 
-// The topmost value gives way to another.
-fn replace(stack: Stack, own: DecisionSet) -> Stack
-    ensures { (result.own ≡ own.code) × (result.top ≡ stack.top) }
+// The file, a place in it and the request stay three parameters of these private functions: the place is another one at each call, no request is
+// needed to tell a tag, and a struct of the three would be taken apart again in `take`.
+/// The node at `at`.
+fn tag_at(file: &[u8], at: usize) -> Tag
+    requires { Next file.now at }
+    ensures { slice_index file.now at ≡ byte_of result }
 {
-    Stack {
-        own: own.code,
-        top: stack.top,
+    let Ok(tag) = Tag::try_from(file[at]) else {
+        unreachable!();
+    };
+    tag
+}
+
+/// The sets of the terms right below a node come off the stack, and its own goes on.
+fn take(tag: Tag, file: &[u8], at: usize, request: &Request<'_>, stack: &mut Stack<'_>)
+    requires inside { at + bytes_of (tag_shape tag) ≤ length file.now }
+    requires below { terms_of (tag_shape tag) ≤ length stack.old }
+    requires room { length stack.old < 32 + terms_of (tag_shape tag) }
+    requires aimed { tag ≡ Targeted → slice_index stack.old 0 ≡ code (single (member (slice_index stack.old 0))) }
+    ensures { stack.new ≡ taken file.now at request.now tag stack.old }
+{
+    match tag {
+        Tag::TargetAtom => {
+            let pair = Pair::from([file[at + 1], file[at + 2], file[at + 3], file[at + 4]]);
+            stack.push(DecisionSet::single(request.value_of(pair)));
+        }
+        Tag::Deny => stack.push(DecisionSet::DENY),
+        Tag::Allow => stack.push(DecisionSet::ALLOW),
+        Tag::TargetNot | Tag::PolicyNot => stack.replace(stack.first().not()),
+        Tag::TargetOptional | Tag::DenyByDefault => stack.replace(stack.first().deny_by_default()),
+        Tag::Targeted => stack.join(stack.second().targeted(stack.first())),
+        Tag::TargetAnd | Tag::PolicyAnd => stack.join(stack.first().and(stack.second())),
+        Tag::TargetOr | Tag::PolicyOr => stack.join(stack.first().or(stack.second())),
     }
 }
 
-// The two topmost values give way to one.
-fn join(stack: Stack, own: DecisionSet) -> Stack
-    requires { stack.top < 32 }
-    ensures { (result.own ≡ own.code) × (result.top ≡ stack.top + 1) }
+/// One step takes one node, at `at`.
+fn step(file: &[u8], at: usize, request: &Request<'_>, stack: &mut Stack<'_>)
+    requires node { Next file.now at }
+    requires before { Finished file.now (behind file.now at) request.now stack.old }
+    ensures { Finished file.now at request.now stack.new }
 {
-    Stack {
-        own: own.code,
-        top: stack.top + 1,
+    take(tag_at(file, at), file, at, request, stack);
+}
+
+/// The set that the policy comes to whose nodes stand at these places.
+pub fn walk(file: &[u8], places: &[u16], request: &Request<'_>) -> DecisionSet
+    requires { Noted file.now places.now }
+    ensures { (p : Policy) → IsPolicy file.now p → result.code ≡ code (eval p request.now) }
+{
+    let mut others = [DecisionSet::UNDEFINED; 32];
+    let mut stack = Stack::new(&mut others);
+    for at in places.iter().rev() {
+        step(file, usize::from(*at), request, &mut stack);
     }
-}
-
-// The value below the topmost.
-fn second(stack: Stack, values: &[u8]) -> DecisionSet
-    requires { stack.top < length values.now }
-    ensures { result.code ≡ get_or values.now stack.top 0 }
-{
-    let at = stack.top;
-    DecisionSet { code: values[at] }
-}
-
-// The value of the atom whose numbers stand at `at`.
-fn atom(file: &[u8], at: usize, request: &[u8]) -> DecisionSet
-    requires { (at + 4 ≤ length file.now) × OrderedFile request.now }
-    ensures { result.code ≡ atom_code (map unpacked (numbers_of request.now)) file.now at }
-{
-    DecisionSet::single(order::atom(request, files::bytes::pair(file, at)))
-}
-
-// One step takes one node, at `at`: the values of the terms right below it come off the stack, and its own goes on.
-fn step(file: &[u8], at: usize, request: &[u8], stack: Stack, values: &mut [u8]) -> Stack
-    requires node { Next file.now at × OrderedFile request.now }
-    requires before { Come file.now (behind file.now at) (map unpacked (numbers_of request.now)) stack values.old }
-    ensures { Come file.now at (map unpacked (numbers_of request.now)) result values.new }
-{
-    let own = DecisionSet { code: stack.own };
-    match file[at] {
-        tags::TARGET_ATOM => push(stack, values, atom(file, at + 1, request)),
-        tags::DENY => push(stack, values, DecisionSet::DENY),
-        tags::ALLOW => push(stack, values, DecisionSet::ALLOW),
-        tags::TARGET_NOT => replace(stack, own.not()),
-        tags::POLICY_NOT => replace(stack, own.not()),
-        tags::TARGET_OPTIONAL => replace(stack, own.deny_by_default()),
-        tags::DENY_BY_DEFAULT => replace(stack, own.deny_by_default()),
-        tags::TARGETED => join(stack, second(stack, values).targeted(own)),
-        tags::TARGET_AND => join(stack, own.and(second(stack, values))),
-        tags::POLICY_AND => join(stack, own.and(second(stack, values))),
-        tags::TARGET_OR => join(stack, own.or(second(stack, values))),
-        _ => join(stack, own.or(second(stack, values))),
-    }
-}
-
-// What the policy comes to, whose nodes stand at these places.
-pub fn walk(file: &[u8], places: &[u16], request: &[u8]) -> DecisionSet
-    requires { Noted file.now places.now × OrderedFile request.now }
-    ensures { (p : Policy) → IsPolicy file.now p → result.code ≡ code (eval p (map unpacked (numbers_of request.now))) }
-{
-    let mut values = [0u8; 32];
-    let mut stack = Stack { own: 0, top: 32 };
-    let mut k = places.len();
-    while 0 < k {
-        k -= 1;
-        let at = places[k] as usize;
-        stack = step(file, at, request, stack, &mut values);
-    }
-    DecisionSet { code: stack.own }
+    stack.first()
 }

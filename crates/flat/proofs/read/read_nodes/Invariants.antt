@@ -1,10 +1,22 @@
--- `read_nodes` meets its contract: one node a turn, by the laws of proofs/Reading.antt.
-use Prim.Native.Nat.{◌-◌}
+-- One node a turn.
+use Prim.Native.Nat.{◌-◌, ◌≤◌}
+use mathlib.Core.Path.{◌≡◌}
+use lib.ListN.{length, take}
+use Rattle.ptacl.specs.Term.{policy}
+use Rattle.files.specs.Prefix.{scan}
+use Rattle.files.specs.ReadPolicy.{in_bytes}
+use Rattle.files.specs.Reading.{told, nothing}
 use Rattle.flat.proofs.Reading.{Loop}
 use Rattle.flat.proofs.read.read_nodes.Given as goal
 
-abbrev pub invariant-loop-number : goal.invariant-loop-number
-invariant-loop-number l = Loop l.file l.places l.stack l.top l.due l.at l.nodes
+abbrev pub invariant-loop-due : goal.invariant-loop-due
+invariant-loop-due l = record {
+  few : l.count ≤ 255;
+  low : l.top ≤ 32;
+  size : length l.later ≡ 32;
+  same : l.reader.bytes ≡ l.fn.reader.bytes;
+  loop : Loop (told nothing (scan (in_bytes 255 l.fn.reader.bytes) 32 policy tt l.fn.reader.at l.fn.reader.nodes)) l.reader (take l.count l.places) l.due (take l.top l.later);
+}
 
-abbrev pub decreases-loop-number : goal.decreases-loop-number
-decreases-loop-number l = 255 - l.nodes
+abbrev pub decreases-loop-due : goal.decreases-loop-due
+decreases-loop-due l = 255 - l.count

@@ -1,28 +1,25 @@
--- `walk` meets its contract: a step at each node, from the last to the first.
-use Prim.Native.Nat.{◌-◌, ◌+◌, ◌<◌}
-use mathlib.Core.Path.{◌≡◌, refl}
+-- A step at each node, from the last to the first.
+use mathlib.Core.Path.{ap, ◌∙◌}
 use native.Mathlib.Omega.{arith}
-use lib.ListN.{length}
-use Rattle.flat.proofs.Come.{come_start, come_end, noted_next, noted_before, noted_after}
+use lib.ListN.{length, get_or}
+use Rattle.flat.proofs.Come.{walk_start, walk_node, walk_before, walk_on, walk_end}
 use Rattle.flat.proofs.walk.walk.Goals as goal
 
-pub loop-k-init : goal.loop-k-init
-loop-k-init c =
-    let w = c.requires.0 in
-    (omega arith, rw w.nodes.counted (come_start w.file refl refl refl))
+pub loop-at-init : goal.loop-at-init
+loop-at-init c =
+    walk_start c.requires (ap (λ s. s.iter.rest.now) c.into_iter-at-iterator.ensures.into_iter_gives ∙ ap (λ s. s.rest.now) c.rev-at-items.ensures.source ∙ c.iter.ensures.rest)
+    c.new-stack.ensures
 
-pub step-stack-requires : goal.step-stack-requires
-step-stack-requires c =
-    let w = c.requires in
-    let i = c.loop-k.invariant in
-    let l : c.loop-k.k - 1 < length c.args.places.now = omega arith in
-    let e : c.loop-k.k - 1 + 1 ≡ c.loop-k.k = omega arith in
-    record { node = (noted_next w.0 l, w.1); before = noted_before w.0 l (rw e i.1) }
+pub step-requires : goal.step-requires
+step-requires c =
+    let e = c.in-Some.ensures.steps in
+    rw c.from.ensures (record { node = walk_node c.requires _ _ c.loop-at.invariant e; before = walk_before c.requires _ _ c.loop-at.invariant e })
 
-pub loop-k-preserved : goal.loop-k-preserved
-loop-k-preserved c = (omega arith, noted_after c.requires.0 (omega arith) c.step-stack.ensures)
+pub loop-at-preserved : goal.loop-at-preserved
+loop-at-preserved c = walk_on c.requires _ _ c.loop-at.invariant c.in-Some.ensures.steps (rw c.from.ensures at c.step.ensures)
+
+pub first-requires : goal.first-requires
+first-requires c = omega (arith, ap length (walk_end c.requires c.requires.file c.loop-at.invariant c.in-None.ensures.steps.0))
 
 pub returns : goal.returns
-returns c = λ p f.
-    let e : c.loop-k.k ≡ 0 = omega arith in
-    come_end f (rw e at c.loop-k.invariant.1)
+returns c = λ p f. c.first.ensures ∙ ap (λ xs. get_or xs 0 0) (walk_end c.requires f c.loop-at.invariant c.in-None.ensures.steps.0)

@@ -1,15 +1,6 @@
--- `walk` meets its contract: a step at each node, from the last to the first.
-use Prim.Native.Nat.{◌≤◌}
-use mathlib.Core.List.{map}
-use lib.ListN.{length}
-use Rattle.ptacl.specs.Pairs.{unpacked}
-use Rattle.files.specs.Places.{numbers_of}
-use Rattle.flat.specs.Places.{place_of}
-use Rattle.flat.specs.Finished.{Come}
+-- A step at each node, from the last to the first: the nodes still to come are the iterator's rest.
+use Rattle.flat.proofs.Come.{Left}
 use Rattle.flat.proofs.walk.walk.Given as goal
 
-abbrev pub invariant-loop-k : goal.invariant-loop-k
-invariant-loop-k l = (l.k ≤ length l.places) × Come l.file (place_of l.file l.k) (map unpacked (numbers_of l.request)) l.stack l.values
-
-abbrev pub decreases-loop-k : goal.decreases-loop-k
-decreases-loop-k l = l.k
+abbrev pub invariant-loop-at : goal.invariant-loop-at
+invariant-loop-at l = Left l.file l.places l.request l.at-iterator.iter.rest.now l.stack
