@@ -1,14 +1,13 @@
--- What stands at i goes on if the pair is smaller, which then stays there; else the pair goes on.
-use borrow.Author.Rules.{rules}
-use Rattle.pairs.proofs.Carry.{carried_swap, carried_past}
+-- The pair is there, or the place that the search found parts those below it from those above.
+use Rattle.pairs.proofs.Placed.{put_there, is_there}
 use Rattle.pairs.proofs.insert.Goals as goal
-use Rattle.pairs.proofs.insert.Goals.{else-held-other, then-held-other}
 
-pub loop-i-preserved : goal.loop-i-preserved
-loop-i-preserved c =
-    let l = c.loop-i in
-    elim c.if-held-other.branch [
-      | then-held-other w ↦ rw (w.pairs-is, w.held-is) (carried_swap _ _ l.pairs _ l.held l.i (search rules) l.invariant (search rules) w.if-held-other.true)
-      | else-held-other w ↦ rw (w.pairs-is, w.held-is)
-          (carried_past _ _ l.pairs _ l.held l.i (search rules) l.invariant (search rules) (search rules) w.if-held-other.false)
-    ]
+pub returns-in-Ok-clause-put : goal.returns-in-Ok-clause-put
+returns-in-Ok-clause-put c =
+    is_there c.args.pair c.args.pairs.now.items _ c.requires.ordered (rw c.as_slice.ensures.value at c.in-Ok.ensures.bound)
+    (rw c.as_slice.ensures.value at c.in-Ok.ensures.position)
+
+pub returns-in-Err-clause-put : goal.returns-in-Err-clause-put
+returns-in-Err-clause-put c =
+    rw c.insert.ensures.items
+    (put_there c.args.pair c.args.pairs.now.items c.in-Err.place c.requires.ordered (rw c.as_slice.ensures.value at c.in-Err.ensures.position))

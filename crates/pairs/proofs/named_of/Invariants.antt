@@ -1,13 +1,10 @@
--- `named_of` gathers the named pairs on a walk over the bytes.
-use Prim.Native.Nat.{◌-◌}
-use mathlib.Core.Path.{◌≡◌}
-use lib.ListN.{length}
-use Rattle.pairs.specs.Lists.{front}
+use Rattle.ptacl.specs.Term.{atoms}
+use Rattle.files.specs.AtomsIn.{atoms_in}
 use Rattle.pairs.proofs.Gather.{Gathered}
 use Rattle.pairs.proofs.named_of.Given as goal
 
-abbrev pub invariant-loop-at : goal.invariant-loop-at
-invariant-loop-at l = (length l.pairs ≡ 254) × Gathered l.term (front l.pairs l.count) l.at
-
-abbrev pub decreases-loop-at : goal.decreases-loop-at
-decreases-loop-at l = length l.term - l.at
+abbrev pub invariant-loop-pair : goal.invariant-loop-pair
+invariant-loop-pair l =
+    (goal.iterator-loop-pair).can_next l.pair-iterator
+    × (goal.iterator-loop-pair).is_finite l.pair-iterator
+    × Gathered 127 (atoms l.policy) (atoms_in l.pair-iterator.rest.now) l.pairs.items

@@ -1,6 +1,13 @@
--- The named pairs of the policy's bytes are those of its atoms.
-use Rattle.pairs.proofs.Callers.{all_normal}
+use Rattle.std.proofs.Common.{map, rules}
+use Rattle.arrayvec.proofs.ArrayVecLemmas.{filter-from_retain}
+use Rattle.files.specs.Tags.{pair_of}
+use Rattle.pairs.specs.Lists.{kept}
+use Rattle.pairs.proofs.Keep.{kept_all}
 use Rattle.pairs.proofs.normal_form_of.Goals as goal
 
-pub returns : goal.returns
-returns c = (c.normal_of.ensures.0, all_normal c.named_of-count.ensures.1 c.normal_of.ensures.1)
+pub returns-clause-normal : goal.returns-clause-normal
+returns-clause-normal c =
+    let named = c.named_of-pairs.result.items in
+    let q = c.args.request.now in
+    let same = filter-from_retain _ (λ p. kept (map pair_of named) q (pair_of p)) _ (λ x b f' y k. search rules) _ _ c.retain.ensures.filtered in
+    rw same (kept_all named c.with_fresh-kept.result.items q c.named_of-pairs.ensures.named (rw c.as_slice.ensures.value at c.with_fresh-kept.ensures))

@@ -1,0 +1,6 @@
+use Rattle.pairs.proofs.Gather.{Gathered}
+use Rattle.pairs.proofs.Fresh.{coming}
+use Rattle.pairs.proofs.NamedPairs.with_fresh.Given as goal
+
+abbrev pub invariant-loop-pair : goal.invariant-loop-pair
+invariant-loop-pair l = Gathered 254 (coming l.self.pairs.now 0) (coming l.self.pairs.now l.pair-index) l.pairs.items
