@@ -1,2 +1,4 @@
-pub mod Laws
-pub mod LacksLoop
+pub mod Policies
+pub mod Never
+pub mod Certified
+pub mod Lacking

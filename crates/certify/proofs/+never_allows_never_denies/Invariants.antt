@@ -1,4 +1,4 @@
--- The cycle {never_allows, never_denies}, by the nodes left: each calls the other at policy not.
+-- The cycle {never_allows, never_denies}, by the depth left: each calls the other at policy not.
 use Rattle.certify.proofs.+never_allows_never_denies.Given as goal
 
 abbrev pub decreases-never_allows : goal.decreases-never_allows

@@ -1,0 +1,32 @@
+//! The rules by which a policy's structure shows it resistant.
+
+ghost use Rattle.std.specs.Prelude.{◌≡◌};
+ghost use Rattle.certify.specs.Numbers.{rule_number};
+
+/// A rule, and what it asks of a policy.
+#[derive(Clone, Copy, Debug, PartialEq, Eq)]
+pub enum Rule {
+    /// It never allows.
+    NeverAllows = 1,
+    /// It has no targeted node.
+    Untargeted = 2,
+    /// It has no not in a target, and no deny-by-default.
+    PlainWithoutDefault = 3,
+    /// It has no not, in a target or of a policy.
+    WithoutNot = 4,
+    /// It is the deny-by-default of a certified policy.
+    DefaultOfCertified = 5,
+    /// It is the and of two certified policies.
+    AndOfCertified = 6,
+    /// It is the or of two certified policies.
+    OrOfCertified = 7,
+}
+
+impl Rule {
+    /// The number that answers carry.
+    pub fn number(self) -> u8
+        ensures { result ≡ rule_number self }
+    {
+        self as u8
+    }
+}
