@@ -1,85 +1,50 @@
 -- The pairs of a numbered subset, chosen one by one; and how many they are.
 use Prim.Native.Nat.{ℕ, zero, suc, ◌+◌, ◌-◌, ◌/◌, ◌%◌, ◌^◌, ◌≤◌, ◌<◌}
-use mathlib.Core.Path.{◌≡◌, refl, sym, ap, ◌∙◌}
+use mathlib.Core.Path.{◌≡◌, sym, ap, ◌∙◌}
 use mathlib.Core.Bool.{true, false, cond}
-use mathlib.Core.List.{List, [], ◌∷◌, ◌++◌, append_assoc, append-nil}
+use mathlib.Core.List.{List, [], ◌∷◌, ◌++◌, append_assoc}
 use native.Mathlib.Numerals.{add-one}
+use native.Mathlib.Nat.{div-div-eq-div-mul}
 use native.Mathlib.Omega.{arith}
-use lib.ListN.{length, drop, set, get_or, length-append, length-set, drop_of_length-le}
-use lib.Seq.{drop-cons, set-append_seam}
+use lib.ListN.{length, drop, get_or, length-append}
+use lib.Pow.{pow-add}
+use lib.Seq.{drop-cons}
 use borrow.Author.Tests.{eqb-true, eq-eqb, ne_eqb}
 use Rattle.ptacl.specs.Exposure.{bit, subset}
 use Rattle.ptacl.proofs.Bools.{either}
 use Rattle.ptacl.proofs.Bits.{odd, bit_zero, bit_suc, less_low, less_odd, less_high}
-use Rattle.files.specs.Memory.{over}
-use Rattle.files.proofs.Memory.{over_nil}
-use Rattle.files.proofs.Places.{more}
 
--- one more at the front
-over_more : (xs s : List ℕ) (x : ℕ) → length xs < length s → set (over xs s) (length xs) x ≡ over (xs ++ (x ∷ [])) s
-unfolding over
-over_more xs s x h =
-    ap (λ l. set (xs ++ l) (length xs) x) (drop-cons s (length xs) 0 h)
-    ∙ (set-append_seam xs _ _ x ∙ (rw (length-append, add-one) (sym (append_assoc xs (x ∷ []) (drop (suc (length xs)) s)))))
+-- of the pairs before i those of the subset were chosen
+pub record Chosen {A : Type 0} (pairs : List A) (m : ℕ) (chosen : List A) (i : ℕ) : Type 0 where
+  pub few : length chosen ≤ i
+  pub whole : chosen ++ subset (drop i pairs) (m / 2 ^ i) ≡ subset pairs m
 
--- of the pairs before i those of the subset are at the front; `rest` numbers the subset of the others
-pub record Chosen (pairs : List ℕ) (m : ℕ) (out₀ out : List ℕ) (rest i k : ℕ) : Type 0 where
-  pub front : List ℕ
-  pub few : k ≤ i
-  pub count : k ≡ length front
-  pub size : length out ≡ length out₀
-  pub written : out ≡ over front out₀
-  pub whole : front ++ subset (drop i pairs) rest ≡ subset pairs m
+module _ {A : Type 0} (pairs : List A) (m : ℕ) where
+  module _ {chosen : List A} {i : ℕ} (c : Chosen pairs m chosen i) where
+    module _ (d : A) (h : i < length pairs) where
+      abbrev others : List A
+      others = subset (drop (i + 1) pairs) (m / 2 ^ (i + 1))
 
-pub chosen_start : (pairs : List ℕ) (m : ℕ) (out : List ℕ) → Chosen pairs m out out m 0 0
-chosen_start pairs m out = record {
-  front = [];
-  few = omega arith;
-  count = refl;
-  size = refl;
-  written = sym (over_nil out);
-  whole = refl;
-}
+      next : subset (drop i pairs) (m / 2 ^ i) ≡ cond (odd (m / 2 ^ i)) (get_or pairs i d ∷ others) others
+      next =
+          let half : m / 2 ^ i / 2 ≡ m / 2 ^ (i + 1) = div-div-eq-div-mul m (2 ^ i) 2 ∙ ap (λ k. m / k) (sym (pow-add 2 i 1)) in
+          rw (drop-cons pairs i d h, half, add-one i)
 
-module _ {pairs : List ℕ} {m : ℕ} {out₀ out : List ℕ} {rest i k : ℕ} (c : Chosen pairs m out₀ out rest i k) where
-  module _ (h : i < length pairs) where
-    abbrev others : List ℕ
-    others = subset (drop (i + 1) pairs) (rest / 2)
+      pub chosen_with : {x : A} → x ≡ get_or pairs i d → m / 2 ^ i % 2 ≡ 1 → {more : List A} → more ≡ chosen ++ (x ∷ []) → Chosen pairs m more (i + 1)
+      chosen_with {x} is e {more} f =
+          let y = get_or pairs i d in
+          rw (f, is) (record {
+            few = omega (arith, c.few, length-append chosen (y ∷ []));
+            whole =
+                append_assoc chosen (y ∷ []) others
+                ∙ (ap (λ l. chosen ++ l) (sym (next ∙ ap (λ b. cond b (y ∷ others) others) (eq-eqb (m / 2 ^ i % 2) 1 e))) ∙ c.whole);
+          })
 
-    next : subset (drop i pairs) rest ≡ cond (odd rest) (get_or pairs i 0 ∷ others) others
-    next = rw (more pairs i h)
-
-    pub chosen_with : length pairs ≤ length out₀ → rest % 2 ≡ 1
-        → Chosen pairs m out₀ (set out k (get_or pairs i 0)) (rest / 2) (i + 1) (k + 1)
-    chosen_with room e =
-        let x = get_or pairs i 0 in
-        let n = c.count in
-        let f = c.few in
-        record {
-          front = c.front ++ (x ∷ []);
-          few = omega arith;
-          count = omega (arith, length-append c.front (x ∷ []));
-          size = length-set out k x ∙ c.size;
-          written = rw (c.written, n) (over_more c.front out₀ x (omega arith));
-          whole =
-              append_assoc c.front (x ∷ []) others
-              ∙ (ap (λ l. c.front ++ l) (sym (next ∙ ap (λ b. cond b (x ∷ others) others) (eq-eqb (rest % 2) 1 e))) ∙ c.whole);
-        }
-
-    pub chosen_without : (rest % 2 ≡ 1 → ⊥) → Chosen pairs m out₀ out (rest / 2) (i + 1) k
-    chosen_without e = record {
-      front = c.front;
-      few = omega (arith, c.few);
-      count = c.count;
-      size = c.size;
-      written = c.written;
-      whole = ap (λ l. c.front ++ l) (sym (next ∙ ap (λ b. cond b (get_or pairs i 0 ∷ others) others) (ne_eqb (rest % 2) 1 e))) ∙ c.whole;
-    }
-
-  pub chosen_end : length pairs ≤ i → (k ≡ length (subset pairs m)) × (out ≡ over (subset pairs m) out₀)
-  chosen_end h =
-      let e : c.front ≡ subset pairs m = sym (append-nil c.front) ∙ (rw (drop_of_length-le pairs h) at c.whole) in
-      (c.count ∙ ap length e, c.written ∙ ap (λ xs. over xs out₀) e)
+      pub chosen_without : (m / 2 ^ i % 2 ≡ 1 → ⊥) → Chosen pairs m chosen (i + 1)
+      chosen_without e = record {
+        few = omega (arith, c.few);
+        whole = ap (λ l. chosen ++ l) (sym (next ∙ ap (λ b. cond b (get_or pairs i d ∷ others) others) (ne_eqb (m / 2 ^ i % 2) 1 e))) ∙ c.whole;
+      }
 
 -- a subset has at most all pairs; less one of its bits, one pair fewer
 pub subset_most : {A : Type 0} (ps : List A) (m : ℕ) → length (subset ps m) ≤ length ps

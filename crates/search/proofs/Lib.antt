@@ -1,5 +1,4 @@
-pub mod Word
+pub mod Hits
 pub mod Steps
 pub mod Chosen
 pub mod Files
-pub mod Answer

@@ -1,12 +1,11 @@
 -- What a search answers for a policy and its pairs, and what it leaves in the lent space.
-use Rattle.std.specs.Prelude.{ℕ, ◌≡◌, List, ◌++◌, map, length}
+use Rattle.std.specs.Prelude.{ℕ, List, ◌++◌, length, Option, Some, None}
 use Rattle.ptacl.specs.Request.{Pair}
 use Rattle.ptacl.specs.Term.{Policy}
 use Rattle.ptacl.specs.Exposure.{subset, one_pair, Exposure, First}
-use Rattle.ptacl.specs.Pairs.{unpacked}
-use Rattle.files.specs.Encoding.{enc, request_file}
+use Rattle.files.specs.Encoding.{request_file}
 use Rattle.files.specs.Memory.{over}
-use Rattle.search.specs.declared.Verdict.{Verdict}
+use Rattle.search.specs.declared.Exposed.{Exposed}
 
 -- two request files: the smaller first, and the larger straight behind it
 unfoldable pub two_files : List Pair → ℕ → ℕ → List ℕ
@@ -16,11 +15,7 @@ two_files ps smaller larger = request_file (subset ps smaller) ++ request_file (
 abbrev pub exposure_files : List Pair → ℕ → ℕ → List ℕ
 exposure_files ps m i = two_files ps (one_pair.less m i) m
 
-pub data Found (p : Policy) (ps : List Pair) (before : List ℕ) : Verdict → List ℕ → Type 0 where
-  none : ((m i : ℕ) → Exposure p ps m i → ⊥) → Found p ps before Verdict.Resistant before
+pub data Found (p : Policy) (ps : List Pair) (before : List ℕ) : Option Exposed → List ℕ → Type 0 where
+  none : ((m i : ℕ) → Exposure p ps m i → ⊥) → Found p ps before None before
   first : {m i : ℕ} → First (Exposure p ps) m i
-      → Found p ps before (Verdict.Exposed m i (length (exposure_files ps m i))) (over (exposure_files ps m i) before)
-
--- so it is for every policy whose body this is
-pub record FoundIn (b pairs before : List ℕ) (v : Verdict) (after : List ℕ) : Type 0 where
-  pub right : (p : Policy) → b ≡ enc p → Found p (map unpacked pairs) before v after
+      → Found p ps before (Some (record { m = m; i = i; bytes = length (exposure_files ps m i) })) (over (exposure_files ps m i) before)

@@ -1,11 +1,10 @@
 -- Exposures read from the table of allowed subsets of k pairs.
-use Rattle.std.specs.Prelude.{ℕ, ◌+◌, ◌*◌, ◌%◌, ◌^◌, ◌≤◌, ◌<◌, ◌≡◌, Bool, true, false, ◌&&◌, not, List, map, length}
+use Rattle.std.specs.Prelude.{ℕ, ◌+◌, ◌*◌, ◌%◌, ◌^◌, ◌≤◌, ◌<◌, ◌≡◌, Bool, true, false, ◌&&◌, not, List, length, Option, Some, None}
+use Rattle.ptacl.specs.Request.{Pair}
 use Rattle.ptacl.specs.Term.{Policy}
-use Rattle.ptacl.specs.Pairs.{unpacked}
 use Rattle.ptacl.specs.Exposure.{Removal, bit, Exposure, First}
-use Rattle.files.specs.Encoding.{enc}
 use Rattle.table.specs.Allowed.{bit_at}
-use Rattle.search.specs.declared.Hit.{Hit}
+use Rattle.search.specs.declared.Exposure.{Exposure as Hit}
 
 -- a table of whole rows with a bit for each subset of k pairs
 pub record Room (k : ℕ) (t : List ℕ) : Type 0 where
@@ -20,13 +19,13 @@ pub record HitAt (allowed : ℕ → Bool) (r : Removal) (k m i : ℕ) : Type 0 w
   pub smaller : allowed (r.less m i) ≡ true
 
 -- the first, or that there is none
-pub data Finds (E : ℕ → ℕ → Type 0) : Hit → Type 0 where
-  nothing : ((m i : ℕ) → E m i → ⊥) → Finds E Hit.Nothing
-  at : {m i : ℕ} → First E m i → Finds E (Hit.At m i)
+pub data Finds (E : ℕ → ℕ → Type 0) : Option Hit → Type 0 where
+  nothing : ((m i : ℕ) → E m i → ⊥) → Finds E None
+  at : {m i : ℕ} → First E m i → Finds E (Some (record { m = m; i = i }))
 
--- the first exposure of every policy whose body this is
-pub record FindsIn (b pairs : List ℕ) (r : Hit) : Type 0 where
-  pub right : (p : Policy) → b ≡ enc p → Finds (Exposure p (map unpacked pairs)) r
+-- the first exposure of a policy on these pairs
+abbrev pub FindsIn : Policy → List Pair → Option Hit → Type 0
+FindsIn p ps = Finds (Exposure p ps)
 
 -- bit j of a word: the subset 64 * w + j less pair i is allowed, where it holds the pair
 pub record LessWord (t : List ℕ) (r : Removal) (w i x : ℕ) : Type 0 where

@@ -1,191 +1,187 @@
--- The rows of a target and of a policy at each lane, by rules over all values and sets that are tested at each of them.
-use Prim.Native.Nat.{ℕ, ◌%◌}
-use mathlib.Core.Path.{◌≡◌, refl, sym, ap, ◌∙◌}
-use mathlib.Core.Bool.{Bool, true, false, cond, not, ◌&&◌, ◌||◌, beq}
-use lib.Dec.{eqb}
-use borrow.Author.Tests.{eqb-true}
-use Rattle.ptacl.specs.Value.{Value, v1, v0, v_u, same, not_v, default_v, and_v, or_v}
-use Rattle.ptacl.specs.Values.{Values, each, each2, under, is_empty, only, code, set_of}
-use Rattle.ptacl.specs.Term.{policy}
-use Rattle.ptacl.specs.Meaning.{lift, lift2}
+-- The operations on rows, at each lane.
+use Prim.Native.Nat.{ℕ, zero, suc, ◌+◌, ◌-◌, ◌/◌, ◌%◌, ◌<◌, ◌^◌}
+use mathlib.Core.Path.{◌≡◌, refl, sym, ap, ap₂, ◌∙◌}
+use mathlib.Core.Bool.{true, false, not, ◌&&◌, ◌||◌}
+use mathlib.Core.List.{List, [], ◌∷◌, map}
+use native.Mathlib.Decide.{dec_le}
+use native.Mathlib.Omega.{arith}
+use lib.Bits.{bit_and, bit_or}
+use lib.Lanes.{zip2, Each1}
+use mir.Syntax.{w64}
+use mir.Val.{Fits}
+use lib.Dec.{lit<}
+use lib.ListN.{length, get_or, replicate, length-map, get_or-eq_default}
+use Rattle.std.proofs.lemmas.Simd.{get_or-zip2, zip2-map, map-map, length-zip2, Each1-get_or}
+use Rattle.std.proofs.lemmas.List.{get_or-replicate, get_or-map}
+use Rattle.std.specs.List.{range_with_len}
+use Rattle.ptacl.specs.Value.{v1, v0, v_u}
+use Rattle.ptacl.specs.Values.{Values, single, only}
 use Rattle.ptacl.specs.Exposure.{bit, strict}
-use Rattle.ptacl.proofs.Finite.{Finite, bools, values, sets, by, by2}
-use Rattle.ptacl.proofs.Codes.{code_set}
-use Rattle.ptacl.proofs.Sets.{or_is, empty_not}
-use Rattle.table.specs.declared.row.Row.{Row}
-use Rattle.table.specs.declared.judge.TargetRow.{TargetRow}
-use Rattle.table.specs.declared.judge.PolicyRow.{PolicyRow}
-use Rattle.table.specs.Rows.{lane, RowIs, value_at, Apart, set_at, set_by, SomeAt, ValuesAre, SetsAre}
-use Rattle.table.proofs.Rows.{none_lane}
+use Rattle.ptacl.proofs.Finite.{sets as all_sets, by}
+use Rattle.table.specs.declared.row.TargetRow.{TargetRow}
+use Rattle.table.specs.declared.row.PolicyRow.{PolicyRow}
+use Rattle.table.specs.Rows.{lane, lanes, every_lane, target_at, set_at, targets, sets}
+use Rattle.table.specs.Outcomes.{not_target, optional_target, and_target, or_target, not_set, default_set, targeted_set, and_set, or_set}
+use Rattle.table.proofs.Bits.{ones, bit_of_and, bit_of_or, bit_of_not, bit_none, bit_ones}
 
--- the rows of a target are where its value is 1, and where it is 0
-pub record Shows (t : TargetRow) (v : ℕ → Value) : Type 0 where
-  pub one : RowIs t.is1 (λ j. same (v j) v1)
-  pub zero : RowIs t.is0 (λ j. same (v j) v0)
+-- of two functions that agree at each lane
+same_range : {A : Type 0} (f g : ℕ → A) (from n : ℕ) → ((j : ℕ) → j < from + n → f j ≡ g j) → map f (range_with_len from n) ≡ map g (range_with_len from n)
+same_range f g from zero e = refl
+same_range f g from (suc n) e = rw (e from (omega arith), same_range f g (from + 1) n (λ j h. e j (omega arith)))
 
--- the value that two bits stand for
-abbrev pub value : Bool → Bool → Value
-value x y = cond x v1 (cond y v0 v_u)
+pub same_lanes : {A : Type 0} (f g : ℕ → A) → ((j : ℕ) → j < 512 → f j ≡ g j) → lanes f ≡ lanes g
+unfolding lanes
+same_lanes f g e = same_range f g 0 512 e
 
-value_of : (v : Value) → value (same v v1) (same v v0) ≡ v
-value_of v1 = refl
-value_of v0 = refl
-value_of v_u = refl
+-- an operation at each lane, on one row or on two
+pub by_one : {A B : Type 0} (h : A → B) (f : ℕ → B) (g : ℕ → A) → ((j : ℕ) → j < 512 → f j ≡ h (g j)) → lanes f ≡ map h (lanes g)
+unfolding lanes
+by_one h f g e = same_lanes f (λ j. h (g j)) e ∙ sym (map-map h g (range_with_len 0 512))
 
-module _ {t : TargetRow} {v : ℕ → Value} (s : Shows t v) where
-  pub shows_values : ValuesAre t v
-  unfolding value_at
-  shows_values = record { at = λ j h. rw (s.one.at j h, s.zero.at j h) (value_of (v j)) }
+by_two : {A B C : Type 0} (h : A → B → C) (f : ℕ → C) (g : ℕ → A) (k : ℕ → B) → ((j : ℕ) → j < 512 → f j ≡ h (g j) (k j))
+    → lanes f ≡ zip2 h (lanes g) (lanes k)
+unfolding lanes
+by_two h f g k e = same_lanes f (λ j. h (g j) (k j)) e ∙ sym (zip2-map h g k (range_with_len 0 512))
 
-  pub shows_apart : Apart t
-  shows_apart = record {
-    apart = λ j h. rw (s.one.at j h, s.zero.at j h) (by values (λ w. same w v1 && same w v0) (λ w. false) refl (v j));
-  }
+-- rows have eight words
+module _ (a b : List ℕ) (m : length a ≡ 8) (n : length b ≡ 8) (j : ℕ) (h : j < 512) where
+  pub lane_and : lane (zip2 bit_and a b) j ≡ (lane a j && lane b j)
+  unfolding lane
+  lane_and = ap (λ x. bit x (j % 64)) (get_or-zip2 bit_and a b (j / 64) 0 0 0 (omega arith) (omega arith)) ∙ bit_of_and _ _ (j % 64)
 
-  pub shows_not : Shows (record { is1 = t.is0; is0 = t.is1; next = t.next }) (λ j. not_v (v j))
-  shows_not = record {
-    one = record { at = λ j h. s.zero.at j h ∙ by values (λ w. same w v0) (λ w. same (not_v w) v1) refl (v j) };
-    zero = record { at = λ j h. s.one.at j h ∙ by values (λ w. same w v1) (λ w. same (not_v w) v0) refl (v j) };
-  }
+  pub lane_or : lane (zip2 bit_or a b) j ≡ (lane a j || lane b j)
+  unfolding lane
+  lane_or = ap (λ x. bit x (j % 64)) (get_or-zip2 bit_or a b (j / 64) 0 0 0 (omega arith) (omega arith)) ∙ bit_of_or _ _ (j % 64)
 
-  pub shows_default : {z : Row} → RowIs z (λ j. not (lane t.is1 j))
-      → Shows (record { is1 = t.is1; is0 = z; next = t.next }) (λ j. default_v (v j))
-  shows_default n = record {
-    one = record { at = λ j h. s.one.at j h ∙ by values (λ w. same w v1) (λ w. same (default_v w) v1) refl (v j) };
-    zero = record { at = λ j h. n.at j h ∙ rw (s.one.at j h) (by values (λ w. not (same w v1)) (λ w. same (default_v w) v0) refl (v j)) };
-  }
+pub lane_none : (j : ℕ) → j < 512 → lane (replicate 8 0) j ≡ false
+unfolding lane
+lane_none j h = ap (λ x. bit x (j % 64)) (get_or-replicate 8 (j / 64) 0 0 (omega arith)) ∙ bit_none (j % 64)
 
-  -- an operation on two values, by rules for where it is 1 and where it is 0 that are tested at all values
-  module _ (f : Value → Value → Value) (one zero : Bool → Bool → Bool)
-      (right1 : values.all (λ a. values.all (λ b. beq (one (same a v1) (same b v1)) (same (f a b) v1))) ≡ true)
-      (right0 : values.all (λ a. values.all (λ b. beq (zero (same a v0) (same b v0)) (same (f a b) v0))) ≡ true) where
-    shows_two : {u : TargetRow} {w : ℕ → Value} {y z : Row} → Shows u w → RowIs y (λ j. one (lane t.is1 j) (lane u.is1 j))
-        → RowIs z (λ j. zero (lane t.is0 j) (lane u.is0 j)) → Shows (record { is1 = y; is0 = z; next = u.next }) (λ j. f (v j) (w j))
-    shows_two {w} k a o = record {
-      one = record {
-        at = λ j h.
-            a.at j h
-            ∙ rw (s.one.at j h, k.one.at j h)
-            (by2 values values (λ a b. one (same a v1) (same b v1)) (λ a b. same (f a b) v1) right1 (v j) (w j));
-      };
-      zero = record {
-        at = λ j h.
-            o.at j h
-            ∙ rw (s.zero.at j h, k.zero.at j h)
-            (by2 values values (λ a b. zero (same a v0) (same b v0)) (λ a b. same (f a b) v0) right0 (v j) (w j));
-      };
-    }
+pub lane_all : (j : ℕ) → j < 512 → lane (replicate 8 ones) j ≡ true
+unfolding lane
+lane_all j h = ap (λ x. bit x (j % 64)) (get_or-replicate 8 (j / 64) ones 0 (omega arith)) ∙ bit_ones (j % 64) (omega arith)
 
-  pub shows_and : {u : TargetRow} {w : ℕ → Value} {y z : Row} → Shows u w → RowIs y (λ j. lane t.is1 j && lane u.is1 j)
-      → RowIs z (λ j. lane t.is0 j || lane u.is0 j) → Shows (record { is1 = y; is0 = z; next = u.next }) (λ j. and_v (v j) (w j))
-  shows_and = shows_two and_v ◌&&◌ ◌||◌ refl refl
+-- eight words of 64 bits
+abbrev pub Long : List ℕ → Type 0
+Long a = (length a ≡ 8) × ((k : ℕ) → Fits w64 (get_or a k 0))
 
-  pub shows_or : {u : TargetRow} {w : ℕ → Value} {y z : Row} → Shows u w → RowIs y (λ j. lane t.is1 j || lane u.is1 j)
-      → RowIs z (λ j. lane t.is0 j && lane u.is0 j) → Shows (record { is1 = y; is0 = z; next = u.next }) (λ j. or_v (v j) (w j))
-  shows_or = shows_two or_v ◌||◌ ◌&&◌ refl refl
+pub long_of : (a : List ℕ) → (length a ≡ 8) × Each1 (Fits w64) a → Long a
+long_of a e = (
+  e.0,
+  λ k. elim (dec_le (length a) k) [
+    | yes h ↦ rw (get_or-eq_default a 0 h) (record { fits = lit< tt })
+    | no h ↦ Each1-get_or (Fits w64) a k 0 (omega arith) e.1
+  ],
+)
 
-pub shown : (t : TargetRow) → Apart t → Shows t (value_at t)
-unfolding value_at
-shown t a = record {
-  one = record { at = λ j h. by2 bools bools (λ x y. x) (λ x y. same (value x y) v1) refl (lane t.is1 j) (lane t.is0 j) };
-  zero = record {
-    at = λ j h.
-        rw (a.apart j h) at
-        (by2 bools bools (λ x y. y) (λ x y. x && y || same (value x y) v0) refl (lane t.is1 j) (lane t.is0 j));
-  };
-}
+pub lane_not : (a : List ℕ) → Long a → (j : ℕ) → j < 512 → lane (map (λ x. 2 ^ 64 - 1 - x) a) j ≡ not (lane a j)
+unfolding lane
+lane_not a l j h =
+    ap (λ x. bit x (j % 64)) (get_or-map (λ x. 2 ^ 64 - 1 - x) a (j / 64) 0 0 (omega arith))
+    ∙ bit_of_not _ (j % 64) (l.1 (j / 64)).fits (omega arith)
 
--- two sets with the same code
-pub same_code : (s r : Values) → code s ≡ code r → s ≡ r
-same_code s r e = sym (code_set s) ∙ (ap set_of e ∙ code_set r)
+-- the methods of the rows, of eight words each
+module _ (t : TargetRow) where
+  pub not_is : targets (record { is1 = t.is0; is0 = t.is1 }) ≡ map not_target (targets t)
+  unfolding target_at
+  not_is = by_one not_target _ (target_at t) (λ j h. refl)
 
--- two rules for a set that agree at every value, at every two wherever a condition holds
-same_set : {A : Type 0} (F : Finite A) (f g : A → Values) → F.all (λ a. eqb (code (f a)) (code (g a))) ≡ true → (a : A) → f a ≡ g a
-same_set F f g h a = same_code (f a) (g a) (eqb-true _ _ (F.at (λ a. eqb (code (f a)) (code (g a))) h a))
+  pub optional_is : Long t.is1 → targets (record { is1 = t.is1; is0 = map (λ x. 2 ^ 64 - 1 - x) t.is1 }) ≡ map optional_target (targets t)
+  unfolding target_at
+  optional_is l = by_one optional_target _ (target_at t) (λ j h. rw (lane_not t.is1 l j h))
 
-module _ {A B : Type 0} (F : Finite A) (G : Finite B) (p : A → B → Bool) (f g : A → B → Values) where
-  abbrev agree : A → B → Bool
-  agree a b = not (p a b) || eqb (code (f a b)) (code (g a b))
+  module _ (u : TargetRow) (a : length t.is1 ≡ 8) (b : length t.is0 ≡ 8) (c : length u.is1 ≡ 8) (d : length u.is0 ≡ 8) where
+    pub and_is : targets (record { is1 = zip2 bit_and t.is1 u.is1; is0 = zip2 bit_or t.is0 u.is0 }) ≡ zip2 and_target (targets t) (targets u)
+    unfolding target_at
+    and_is = by_two and_target _ (target_at t) (target_at u) (λ j h. rw (lane_and t.is1 u.is1 a c j h, lane_or t.is0 u.is0 b d j h))
 
-  same_set2 : F.all (λ a. G.all (agree a)) ≡ true → (a : A) (b : B) → p a b ≡ true → f a b ≡ g a b
-  same_set2 h a b e =
-      let k = G.at (agree a) (F.at (λ a. G.all (agree a)) h a) b in same_code (f a b) (g a b) (eqb-true _ _ (rw e at k))
+    pub or_is : targets (record { is1 = zip2 bit_or t.is1 u.is1; is0 = zip2 bit_and t.is0 u.is0 }) ≡ zip2 or_target (targets t) (targets u)
+    unfolding target_at
+    or_is = by_two or_target _ (target_at t) (target_at u) (λ j h. rw (lane_or t.is1 u.is1 a c j h, lane_and t.is0 u.is0 b d j h))
 
--- where the set is allow alone
-pub only_law : (p : PolicyRow) {more none r : Row} → RowIs more (λ j. lane p.deny j || lane p.undefined j)
-    → RowIs none (λ j. not (lane more j)) → RowIs r (λ j. lane p.allow j && lane none j) → RowIs r (λ j. strict (set_at p j))
-unfolding set_at only
-only_law p m n a = record {
-  at = λ j h. a.at j h ∙ rw (n.at j h, m.at j h) (by sets (λ s. s.has1 && not (s.has0 || s.has_u)) strict refl (set_at p j));
-}
+pub undefined_is : targets (record { is1 = replicate 8 0; is0 = replicate 8 0 }) ≡ every_lane (single v_u)
+unfolding target_at
+undefined_is = same_lanes _ _ (λ j h. rw (lane_none j h))
 
-pub not_law : (p : PolicyRow)
-    → SetsAre (record { allow = p.deny; deny = p.allow; undefined = p.undefined; next = p.next }) (λ j. each not_v (set_at p j))
+pub allow_is : sets (record { allow = replicate 8 ones; deny = replicate 8 0; undefined = replicate 8 0 }) ≡ every_lane (single v1)
 unfolding set_at
-not_law p = record {
-  at = λ j h. same_set sets (λ s. record { has1 = s.has0; has0 = s.has1; has_u = s.has_u }) (each not_v) refl (set_at p j);
-}
+allow_is = same_lanes _ _ (λ j h. rw (lane_all j h, lane_none j h))
 
-pub default_law : (p r : PolicyRow) {more : Row} → RowIs more (λ j. lane p.deny j || lane p.undefined j)
-    → SetsAre r (λ j. set_by (lane p.allow j) (lane more j)) → SetsAre r (λ j. each default_v (set_at p j))
+pub deny_is : sets (record { allow = replicate 8 0; deny = replicate 8 ones; undefined = replicate 8 0 }) ≡ every_lane (single v0)
 unfolding set_at
-default_law p r m s = record {
-  at = λ j h.
-      s.at j h
-      ∙ rw (m.at j h) (same_set sets (λ s. set_by s.has1 (s.has0 || s.has_u)) (each default_v) refl (set_at p j));
-}
+deny_is = same_lanes _ _ (λ j h. rw (lane_all j h, lane_none j h))
 
-pub decided_law : (r : PolicyRow) → RowIs r.undefined (λ j. bit 0 (j % 64))
-    → SetsAre r (λ j. set_by (lane r.allow j) (lane r.deny j))
-unfolding set_at
-decided_law r u = record { at = λ j h. rw (none_lane u j h) }
+module _ (p : PolicyRow) where
+  pub set_not_is : sets (record { allow = p.deny; deny = p.allow; undefined = p.undefined }) ≡ map not_set (sets p)
+  unfolding set_at
+  set_not_is = by_one not_set _ (set_at p) (λ j h. refl)
 
-module _ (t : TargetRow) (p r : PolicyRow) {not0 not1 : Row} (apart : Apart t) (n0 : RowIs not0 (λ j. not (lane t.is0 j)))
-    (n1 : RowIs not1 (λ j. not (lane t.is1 j))) (a : RowIs r.allow (λ j. lane p.allow j && lane not0 j))
-    (d : RowIs r.deny (λ j. lane p.deny j && lane not0 j))
-    (u : RowIs r.undefined (λ j. lane p.undefined j || lane not1 j)) where
-  pub targeted_law : SetsAre r (λ j. under (value_at t j) (set_at p j))
-  unfolding set_at under
-  targeted_law = record {
-    at = λ j h.
-        let v = shown t apart in
-        rw (a.at j h, d.at j h, u.at j h, n0.at j h, n1.at j h, v.zero.at j h, v.one.at j h)
-        (same_set2 values sets (λ v s. true)
-        (λ v s. record { has1 = s.has1 && not (same v v0); has0 = s.has0 && not (same v v0); has_u = s.has_u || not (same v v1) })
-        under refl (value_at t j) (set_at p j) refl);
-  }
+  module _ (a : length p.allow ≡ 8) (d : length p.deny ≡ 8) (u : length p.undefined ≡ 8) where
+    pub default_is : sets (record { allow = p.allow; deny = zip2 bit_or p.deny p.undefined; undefined = replicate 8 0 }) ≡ map default_set (sets p)
+    unfolding set_at
+    default_is = by_one default_set _ (set_at p) (λ j h. rw (lane_or p.deny p.undefined d u j h, lane_none j h))
 
-module _ (left right r : PolicyRow) {au bv ub va : Row} (some : SomeAt left) (more : SomeAt right)
-    (eau : RowIs au (λ j. lane left.allow j || lane left.undefined j))
-    (ebv : RowIs bv (λ j. lane right.allow j || lane right.undefined j))
-    (eub : RowIs ub (λ j. lane left.undefined j && lane bv j)) (eva : RowIs va (λ j. lane right.undefined j && lane au j))
-    (a : RowIs r.allow (λ j. lane left.allow j && lane right.allow j))
-    (d : RowIs r.deny (λ j. lane left.deny j || lane right.deny j))
-    (u : RowIs r.undefined (λ j. lane ub j || lane va j)) where
-  pub both_law : SetsAre r (λ j. each2 and_v (set_at left j) (set_at right j))
-  unfolding set_at is_empty
-  both_law = record {
-    at = λ j h.
-        let e : not (is_empty (set_at left j) || is_empty (set_at right j)) ≡ true = rw (some.some j h, more.some j h) in
-        rw (a.at j h, d.at j h, u.at j h, eub.at j h, eva.at j h, eau.at j h, ebv.at j h)
-        (same_set2 sets sets (λ s r. not (is_empty s || is_empty r))
-        (λ s r. record {
-          has1 = s.has1 && r.has1;
-          has0 = s.has0 || r.has0;
-          has_u = s.has_u && (r.has1 || r.has_u) || r.has_u && (s.has1 || s.has_u);
-        })
-        (each2 and_v) refl (set_at left j) (set_at right j) e);
-  }
+    pub targeted_is : (t : TargetRow) → Long t.is1 → Long t.is0
+        → sets (record {
+          allow = zip2 bit_and p.allow (map (λ x. 2 ^ 64 - 1 - x) t.is0);
+          deny = zip2 bit_and p.deny (map (λ x. 2 ^ 64 - 1 - x) t.is0);
+          undefined = zip2 bit_or p.undefined (map (λ x. 2 ^ 64 - 1 - x) t.is1);
+        }) ≡ zip2 targeted_set (targets t) (sets p)
+    unfolding set_at target_at
+    targeted_is t l m =
+        let not0 = map (λ x. 2 ^ 64 - 1 - x) t.is0 in
+        let not1 = map (λ x. 2 ^ 64 - 1 - x) t.is1 in
+        let e : length not0 ≡ 8 = length-map t.is0 _ ∙ m.0 in
+        let f : length not1 ≡ 8 = length-map t.is1 _ ∙ l.0 in
+        by_two targeted_set _ (target_at t) (set_at p) (λ j h.
+        rw (lane_and p.allow not0 a e j h, lane_and p.deny not0 d e j h, lane_or p.undefined not1 u f j h, lane_not t.is0 m j h, lane_not t.is1 l j h))
+
+    pub set_and_is : (q : PolicyRow) → length q.allow ≡ 8 → length q.deny ≡ 8 → length q.undefined ≡ 8
+        → sets (record {
+          allow = zip2 bit_and p.allow q.allow;
+          deny = zip2 bit_or p.deny q.deny;
+          undefined = zip2 bit_or (zip2 bit_and p.undefined (zip2 bit_or q.allow q.undefined)) (zip2 bit_and q.undefined (zip2 bit_or p.allow p.undefined));
+        }) ≡ zip2 and_set (sets p) (sets q)
+    unfolding set_at
+    set_and_is q b e v =
+        let left = zip2 bit_or p.allow p.undefined in
+        let right = zip2 bit_or q.allow q.undefined in
+        let l : length left ≡ 8 = length-zip2 bit_or _ _ (a ∙ sym u) ∙ a in
+        let r : length right ≡ 8 = length-zip2 bit_or _ _ (b ∙ sym v) ∙ b in
+        let x = zip2 bit_and p.undefined right in
+        let y = zip2 bit_and q.undefined left in
+        let lx : length x ≡ 8 = length-zip2 bit_and _ _ (u ∙ sym r) ∙ u in
+        let ly : length y ≡ 8 = length-zip2 bit_and _ _ (v ∙ sym l) ∙ v in
+        by_two and_set _ (set_at p) (set_at q) (λ j h.
+        rw (
+          lane_and p.allow q.allow a b j h,
+          lane_or p.deny q.deny d e j h,
+          lane_or x y lx ly j h,
+          lane_and p.undefined right u r j h,
+          lane_and q.undefined left v l j h,
+          lane_or q.allow q.undefined b v j h,
+          lane_or p.allow p.undefined a u j h,
+        ))
+
+  pub only_is : length p.allow ≡ 8 → Long p.deny → Long p.undefined
+      → lanes (lane (zip2 bit_and (zip2 bit_and p.allow (map (λ x. 2 ^ 64 - 1 - x) p.deny)) (map (λ x. 2 ^ 64 - 1 - x) p.undefined))) ≡ map strict (sets p)
+  unfolding set_at only
+  only_is a d u =
+      let not0 = map (λ x. 2 ^ 64 - 1 - x) p.deny in
+      let notu = map (λ x. 2 ^ 64 - 1 - x) p.undefined in
+      let e : length not0 ≡ 8 = length-map p.deny _ ∙ d.0 in
+      let f : length notu ≡ 8 = length-map p.undefined _ ∙ u.0 in
+      let g : length (zip2 bit_and p.allow not0) ≡ 8 = length-zip2 bit_and _ _ (a ∙ sym e) ∙ a in
+      by_one strict _ (set_at p) (λ j h.
+      rw (lane_and _ notu g f j h, lane_and p.allow not0 a e j h, lane_not p.deny d j h, lane_not p.undefined u j h)
+      (by all_sets (λ s. s.has1 && not s.has0 && not s.has_u) strict refl (set_at p j)))
 
 -- an or is not(and(not, not))
-pub some_not : (p : PolicyRow) {a : PolicyRow} → SomeAt p → SetsAre a (λ j. each not_v (set_at p j)) → SomeAt a
-unfolding lift
-some_not p m s = record { some = λ j h. ap is_empty (s.at j h) ∙ (empty_not (set_at p j) ∙ m.some j h) }
-
-pub either_law : (left right r : PolicyRow) {a b c : PolicyRow} → SetsAre a (λ j. each not_v (set_at left j)) → SetsAre b (λ j. each not_v (set_at right j))
-    → SetsAre c (λ j. each2 and_v (set_at a j) (set_at b j)) → SetsAre r (λ j. each not_v (set_at c j))
-    → SetsAre r (λ j. each2 or_v (set_at left j) (set_at right j))
-unfolding lift lift2
-either_law left right r a b c d = record {
-  at = λ j h. rw (d.at j h, c.at j h, a.at j h, b.at j h) (sym (or_is policy (set_at left j) (set_at right j)));
-}
+pub set_or_is : (p q n m r : PolicyRow) {x : List Values} → sets n ≡ map not_set (sets p) → sets m ≡ map not_set (sets q)
+    → sets r ≡ zip2 and_set (sets n) (sets m) → x ≡ map not_set (sets r) → x ≡ zip2 or_set (sets p) (sets q)
+set_or_is p q n m r a b c d = d ∙ ap (map not_set) (c ∙ ap₂ (zip2 and_set) a b) ∙ mapped (sets p) (sets q)
+  where
+    mapped : (xs ys : List Values) → map not_set (zip2 and_set (map not_set xs) (map not_set ys)) ≡ zip2 or_set xs ys
+    mapped [] ys = refl
+    mapped (s ∷ xs) [] = refl
+    mapped (s ∷ xs) (r ∷ ys) = rw (mapped xs ys)

@@ -1,8 +1,6 @@
-pub mod Words
-pub mod Rows
+pub mod Bits
 pub mod Lanes
-pub mod Numbered
+pub mod Laws
 pub mod Pass
-pub mod Nodes
-pub mod Judged
+pub mod Subsets
 pub mod Filled

@@ -1,3 +1,3 @@
 pub mod Allowed
-pub mod Evaluated
 pub mod Rows
+pub mod Outcomes

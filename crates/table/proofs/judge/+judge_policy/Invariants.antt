@@ -1,4 +1,3 @@
--- The cycle {judge_policy}, by the number of nodes left.
 use Rattle.table.proofs.judge.+judge_policy.Given as goal
 
 abbrev pub decreases-judge_policy : goal.decreases-judge_policy

@@ -1,4 +1,3 @@
--- The cycle {judge_target}, by the number of nodes left.
 use Rattle.table.proofs.judge.+judge_target.Given as goal
 
 abbrev pub decreases-judge_target : goal.decreases-judge_target

@@ -1,6 +1,0 @@
-use Rattle.std.proofs.Common.{arith}
-use lib.Pow.{pow_mono}
-use Rattle.search.proofs.less.Goals as goal
-
-pub overflow_shl-result : goal.overflow_shl-result
-overflow_shl-result c = omega (arith, pow_mono {i = c.args.i} {j = 5} (omega arith))
