@@ -1,13 +1,20 @@
 -- Decimal: a number's digits do not end a run, are few, and are read as the number; and a run that is read as a number is its digits.
 use Prim.Native.Nat.{ℕ, zero, suc, ◌+◌, ◌*◌, ◌-◌, ◌/◌, ◌%◌, ◌<◌, ◌≤◌}
-use mathlib.Core.Path.{◌≡◌, refl}
+use mathlib.Core.Path.{◌≡◌, refl, sym, ap, subst, ◌∙◌}
 use mathlib.Core.Bool.{Bool, true, false, cond}
 use mathlib.Core.List.{List, [], ◌∷◌, ◌++◌}
 use native.Mathlib.Omega.{arith}
 use lib.Dec.{ltb}
 use lib.ListN.{length, length-append}
-use borrow.Author.Tests.{ltb-true, lt-ltb, ne_eqb}
-use Rattle.ptacl.proofs.Bools.{and_left, and_right}
+use borrow.Author.Tests.{ltb-true, lt-ltb, le-ltb, ne_eqb}
+use Rattle.std.specs.Fmt.{decimal as printed}
+use Rattle.std.specs.Str.{IsUtf8}
+use Rattle.std.specs.Str.Parse.{ParsesUnsigned}
+use Rattle.std.specs.Prelude.{Result, Ok, Err, Some, None, MatchResult}
+use Rattle.std.specs.Result.{result_ok}
+use Rattle.std.proofs.lemmas.Fmt.{AppendsLastDigit, decimal_from_appends, length-decimal-le, parse-decimal, IsAscii-decimal}
+use Rattle.std.proofs.lemmas.Str.{IsUtf8-from_ascii}
+use Rattle.ptacl.proofs.Bools.{either, and_left, and_right}
 use Rattle.text.specs.Line.{digits, decimal}
 use Rattle.text.specs.ReadText.{value, is_number}
 use Rattle.text.proofs.Runs.{plain, plain_append, same_refl, same_true}
@@ -70,3 +77,52 @@ number_told w e = record {
   few = ltb-true (value 0 w) 65536 (and_left _ e);
   is = same_true w (decimal (value 0 w)) (and_right (ltb (value 0 w) 65536) e);
 }
+
+-- ---- as the library prints and parses it
+
+by_last : AppendsLastDigit digits
+unfolding digits
+by_last = record { one = λ k n h. rw (lt-ltb n 10 h); more = λ k n h. rw (le-ltb n 10 h) }
+
+pub decimal_printed : (n : ℕ) → n < 65536 → printed n ≡ decimal n
+decimal_printed n h = sym (decimal_from_appends digits by_last 5 n (omega arith) (length-decimal-le 5 n (omega arith) (omega arith) (omega arith)))
+
+-- what holds of a result's value, or of its error, by the Option that is made of it
+module _ {A E : Type 0} (P : A → Type 0) (Q : E → Type 0) where
+  pub value_told : (r : Result A E) (x : A) → result_ok r ≡ Some x → MatchResult r P Q → P x
+  value_told (Ok y) x e m = let s : y ≡ x = cc e in subst P s m
+  value_told (Err y) x e m = absurd cc
+
+  pub error_told : {C : Type 0} (r : Result A E) → result_ok r ≡ None → MatchResult r P Q → ((e : E) → Q e → C) → C
+  error_told (Ok y) e m f = absurd cc
+  error_told (Err y) e m f = f y m
+
+-- what is no number's text is none; and what is
+module _ (w : List ℕ) where
+  unless : ((n : ℕ) → n < 65536 → w ≡ printed n → ⊥) → is_number w ≡ false
+  unless none = either (is_number w)
+      (λ e. let m = number_told w e in absurd (none (value 0 w) m.few (m.is ∙ sym (decimal_printed (value 0 w) m.few))))
+      (λ e. e)
+
+  pub number_bytes : (IsUtf8 w → ⊥) → is_number w ≡ false
+  number_bytes other = unless (λ n h e. other (subst IsUtf8 (sym e) (IsUtf8-from_ascii (printed n) (IsAscii-decimal n (omega arith)))))
+
+  -- t: the run as text
+  module _ {E : Type 0} (t : List ℕ) (is : t ≡ w) (r : Result ℕ E) (p : ParsesUnsigned 16 10 t r) where
+    parsed : (n : ℕ) → n < 65536 → w ≡ printed n → r ≡ Ok n
+    parsed n h e = parse-decimal 16 n t r (omega arith) (omega arith) (is ∙ e) p
+
+    pub number_unparsed : result_ok r ≡ None → is_number w ≡ false
+    number_unparsed failed = unless (λ n h e. different n (parsed n h e))
+      where
+        different : (n : ℕ) → r ≡ Ok n → ⊥
+        different n e = let s : result_ok r ≡ Some n = ap result_ok e in cc
+
+    pub number_otherwise : (n : ℕ) → result_ok r ≡ Some n → (decimal n ≡ w → ⊥) → is_number w ≡ false
+    number_otherwise n o other = unless (λ m h e. other (again m h e (parsed m h e)))
+      where
+        again : (m : ℕ) → m < 65536 → w ≡ printed m → r ≡ Ok m → decimal n ≡ w
+        again m h e f = let t : result_ok r ≡ Some m = ap result_ok f in let s : m ≡ n = cc (t, o) in sym (e ∙ decimal_printed m h ∙ ap decimal s)
+
+  pub number_so : (n : ℕ) → n < 65536 → decimal n ≡ w → (is_number w ≡ true) × (value 0 w ≡ n)
+  number_so n h e = rw (sym e) (decimal_number n h, value_decimal n h)

@@ -1,117 +1,103 @@
--- What is met where a node is due, in words and in bytes.
-use Prim.Native.Nat.{ℕ, ◌+◌, ◌-◌, ◌≤◌, ◌<◌}
-use mathlib.Core.Path.{◌≡◌, refl, sym, ap, ◌∙◌}
-use mathlib.Core.List.{List, [], ◌∷◌}
-use lib.ListN.{length, get_or, take, drop}
+-- What stands in a line where a node is due, by the run there.
+use Prim.Native.Nat.{ℕ, ◌+◌, ◌<◌}
+use mathlib.Core.Path.{◌≡◌, refl, sym, ap, subst, ◌∙◌}
+use mathlib.Core.List.{List}
+use native.Mathlib.Omega.{arith}
+use lib.ListN.{length}
 use borrow.Author.Tests.{lt-ltb, le-ltb, ne_eqb}
-use Rattle.ptacl.specs.Term.{Sort, Node, tag_of, Shape, numbers, leaf, one, two, shape}
-use Rattle.files.specs.Encoding.{bytes}
-use Rattle.files.specs.Refusal.{Read}
-use Rattle.files.specs.Prefix.{Head, node, stop}
-use Rattle.files.specs.ReadPolicy.{Byte, tag, other, unknown, byte_at, limit_of, tagged}
-use Rattle.files.specs.ReadPolicy as P
-use Rattle.files.specs.Places.{At}
-use Rattle.files.specs.Cases.{byte_of, head_of, shape_name}
-use Rattle.files.specs.declared.policy.Shape.{Shape as ShapeC}
-use Rattle.files.specs.declared.policy.Byte.{Byte as ByteC}
-use Rattle.files.specs.declared.policy.Head.{Head as HeadC}
-use Rattle.files.proofs.Places.{room, head}
-use Rattle.files.proofs.Prefix.{Told}
-use Rattle.files.proofs.SingleByte.{byte_found}
-use Rattle.files.proofs.PolicySteps.{Faulty, byte_laws}
-use Rattle.files.proofs.PolicySeen.{never, Names, byte_tag}
-use Rattle.text.specs.Line.{End, behind}
-use Rattle.text.specs.ReadText.{run_at, word_at, past, opened, head_at}
-use Rattle.text.specs.Cases.{end_of, follows, step_of, met_of}
-use Rattle.text.specs.declared.ends.End.{End as EndC}
-use Rattle.text.specs.declared.ends.Step.{Step}
-use Rattle.text.specs.declared.convert.Met.{Met}
-use Rattle.text.proofs.Numbers.{run_part, step_on, step_off}
+use Rattle.ptacl.specs.Term.{Sort, target, policy, Node, an_atom, a_deny, an_allow, a_targeted, a_not, a_default, an_and, an_or, shape}
+use Rattle.ptacl.proofs.Finite.{at_node}
+use Rattle.files.specs.Refusal.{Read, accepted, refused}
+use Rattle.files.specs.ReadPolicy.{Byte, tag, other, unknown, tagged, limit_of}
+use Rattle.files.specs.Reading.{◌>>=◌}
+use Rattle.files.specs.Tags.{sort_of, tag_named, tag_sort, tag_shape}
+use Rattle.files.specs.declared.tag.Sort.{Sort as SortC}
+use Rattle.files.specs.declared.tag.Tag.{Tag}
+use Rattle.files.proofs.Nodes.{fault_above}
+use Rattle.files.specs.Faults.{fault_number}
+use Rattle.files.specs.declared.fault.Fault.{Fault}
+use Rattle.text.specs.Words.{word}
+use Rattle.text.specs.Line.{behind}
+use Rattle.text.specs.ReadText.{run_at, same, word_at, past, opened, head_at}
+use Rattle.text.specs.Nodes.{end_of, follows, node_named, word_of}
+use Rattle.text.specs.Converting.{met}
+use Rattle.text.specs.declared.end.End.{End as EndC}
+use Rattle.text.proofs.Named.{named}
+use Rattle.text.proofs.Runs.{same_true}
+use Rattle.text.proofs.WordLaws.{word_known, word_found}
 
--- ---- in words
+-- the word of a node is that of its tag; and no word of the other sort
+its_word : {s : Sort} (n : Node s) → word n ≡ word_of (tag_named n)
+its_word n = same_true (word n) (word_of (tag_named n)) (at_node (λ s n. same (word n) (word_of (tag_named n))) refl n)
 
-pub follows_behind : {s : Sort} (g : Shape s) (e : EndC) → end_of (follows (shape_name g) e) ≡ behind g (end_of e)
-follows_behind (numbers f) e = refl
-follows_behind (leaf t) e = refl
-follows_behind (one f) e = refl
-follows_behind (two r f) e = refl
+no_target : (n : Node policy) → word_at target (word n) ≡ unknown
+unfolding word_at
+no_target a_deny = refl
+no_target an_allow = refl
+no_target a_targeted = refl
+no_target (a_not policy) = refl
+no_target (a_default policy) = refl
+no_target (an_and policy) = refl
+no_target (an_or policy) = refl
 
-pub word_cut : (b : List ℕ) (s : Sort) (left : ℕ) (e : End) (at k : ℕ) → length b ≤ at → Met.Stop 53 (length b) ≡ met_of (head_at 255 b s left e at k)
-unfolding head_at
-word_cut b s left e at k h = rw (le-ltb at (length b) h)
+no_policy : (n : Node target) → word_at policy (word n) ≡ unknown
+unfolding word_at
+no_policy an_atom = refl
+no_policy (a_not target) = refl
+no_policy (a_default target) = refl
+no_policy (an_and target) = refl
+no_policy (an_or target) = refl
 
--- what is no tag of the sort is 51
-no_tag : {s : Sort} (number at : ℕ) (follows : Node s → Head s) (x : Byte s) → ((g : ShapeC) → byte_of x ≡ ByteC.Tag g → ⊥)
-    → Met.Stop 51 at ≡ met_of (tagged 51 51 number at follows x)
-no_tag number at follows (tag n) u = absurd (u _ refl)
-no_tag number at follows (other n) u = refl
-no_tag number at follows unknown u = refl
+no_other : (r s : SortC) (n : Node (sort_of r)) → (r ≡ s → ⊥) → word_at (sort_of s) (word n) ≡ unknown
+no_other SortC.Target SortC.Target n d = absurd (d refl)
+no_other SortC.Target SortC.Policy n d = no_policy n
+no_other SortC.Policy SortC.Target n d = no_target n
+no_other SortC.Policy SortC.Policy n d = absurd (d refl)
 
--- a run of the text, where it ends, and the tag that the code finds for it
-pub record RunAt (b : List ℕ) (s : Sort) (at stop t : ℕ) : Type 0 where
-  pub inside : at < length b
-  pub ends : stop ≡ at + length (run_at b at)
-  pub its : byte_at s t ≡ word_at s (take (stop - at) (drop at b))
+no_tag : {s : Sort} (l at : ℕ) (f : Node s → Read ℕ) (x : Byte s) → ((n : Node s) → x ≡ tag n → ⊥) → met (tagged 51 51 l at (λ n. opened n (f n)) x) ≡ refused 51 at
+no_tag l at f (tag n) none = absurd (none n refl)
+no_tag l at f (other n) none = refl
+no_tag l at f unknown none = refl
 
-module _ {b : List ℕ} {s : Sort} {at stop t : ℕ} (r : RunAt b s at stop t) (left : ℕ) (e : EndC) (k : ℕ) where
-  abbrev word_head : Head s
-  word_head = head_at 255 b s left (end_of e) at k
+met_opened : {s : Sort} (n : Node s) (t : Tag) → tag_named n ≡ t → (x : Read ℕ) → met (opened n x) ≡ (x >>= λ next. accepted (t, next))
+met_opened n t e (accepted next) = rw e refl
+met_opened n t e (refused m p) = refl
 
-  found : word_at s (run_at b at) ≡ byte_at s t
-  found = ap (word_at s) (sym (run_part b at r.ends)) ∙ sym r.its
+module _ (b : List ℕ) (sort : SortC) (left : ℕ) (e : EndC) (at k : ℕ) where
+  abbrev here : Read (Tag × ℕ)
+  here = met (head_at 255 b (sort_of sort) left (end_of e) at k)
 
-  pub word_strange : ((g : ShapeC) → byte_of (byte_at s t) ≡ ByteC.Tag g → ⊥) → Met.Stop 51 at ≡ met_of word_head
+  pub word_ends : at ≡ length b → here ≡ refused 53 at
   unfolding head_at
-  word_strange u = rw (lt-ltb at (length b) r.inside, found)
-      (no_tag (limit_of 255 left k) at (λ n. opened n (past b (behind (shape n) (end_of e)) (at + length (run_at b at)))) (byte_at s t) u)
+  word_ends h = rw (le-ltb at (length b) (omega arith), h)
 
-  module _ {g : ShapeC} (u : byte_of (byte_at s t) ≡ ByteC.Tag g) {l : ℕ} (d : l ≡ limit_of 255 left k) where
-    named : Names (byte_at s t) g
-    named = byte_tag (byte_at s t) g u
-
-    pub word_limited : (l ≡ 0 → ⊥) → Met.Stop l at ≡ met_of word_head
+  module _ (i : at < length b) where
+    pub word_strange : ((t : Tag) → run_at b at ≡ word_of t → ⊥) → here ≡ refused 51 at
     unfolding head_at
-    word_limited z = rw (lt-ltb at (length b) r.inside, found, named.is, ← d, ne_eqb l 0 z)
+    word_strange none = rw (lt-ltb at (length b) i)
+        (no_tag (limit_of 255 left k) at (λ n. past b (behind (shape n) (end_of e)) (at + length (run_at b at))) (word_at (sort_of sort) (run_at b at)) (λ n f. none (tag_named n) (word_found _ n f ∙ its_word n)))
 
-    module _ (z : l ≡ 0) where
-      past_it : past b (behind (shape named.its) (end_of e)) (at + length (run_at b at)) ≡ past b (end_of (follows g e)) stop
-      past_it =
-          ap (λ x. past b x (at + length (run_at b at))) (sym (follows_behind (shape named.its) e) ∙ ap (λ x. end_of (follows x e)) named.so)
-          ∙ ap (past b (end_of (follows g e))) (sym r.ends)
-
-      its_head : (x : Read ℕ) → past b (end_of (follows g e)) stop ≡ x → met_of word_head ≡ met_of (opened named.its x)
+    module _ (t : Tag) (is : run_at b at ≡ word_of t) where
+      pub word_slip : (tag_sort t ≡ sort → ⊥) → here ≡ refused 51 at
       unfolding head_at
-      its_head x p = rw (lt-ltb at (length b) r.inside, found, named.is, sym d ∙ z, past_it, p)
+      word_slip d = rw (lt-ltb at (length b) i, is, ← (named t).its, no_other (tag_sort t) sort (node_named t) d)
 
-      -- f is what is due behind the word
-      module _ {f : EndC} (v : f ≡ follows g e) where
-        pub word_on : {next : ℕ} → Step.On next ≡ step_of (past b (end_of f) stop) → Met.Node t g next ≡ met_of word_head
-        word_on {next} p =
-            ap (λ x. Met.Node x g next) (byte_found s t named.its named.is)
-            ∙ ap (λ x. Met.Node (tag_of named.its) x next) (sym named.so) ∙ sym (its_head _ (step_on _ (sym (rw v at p))))
+      module _ (d : tag_sort t ≡ sort) where
+        -- the node of the tag, of the sort that is due
+        its : (n : Node (sort_of sort)) × (word_at (sort_of sort) (run_at b at) ≡ tag n) × (tag_named n ≡ t)
+            × (behind (shape n) (end_of e) ≡ end_of (follows (tag_shape t) e))
+        its = subst (λ z. (n : Node (sort_of z)) × (word_at (sort_of z) (run_at b at) ≡ tag n) × (tag_named n ≡ t)
+            × (behind (shape n) (end_of e) ≡ end_of (follows (tag_shape t) e))) d
+            (node_named t, ap (word_at (sort_of (tag_sort t))) (is ∙ sym (named t).its) ∙ word_known (node_named t), (named t).back, (named t).end e)
 
-        pub word_off : {n p : ℕ} → Step.Off n p ≡ step_of (past b (end_of f) stop) → Met.Stop n p ≡ met_of word_head
-        word_off p = sym (its_head _ (step_off _ (sym (rw v at p))))
+        pub word_limited : (f : Fault) → limit_of 255 left k ≡ fault_number f → here ≡ refused (fault_number f) at
+        unfolding head_at
+        word_limited f l = rw (lt-ltb at (length b) i, its.1, l, ne_eqb (fault_number f) 0 (λ z. omega (arith, fault_above f, z)))
 
--- ---- in bytes
+        pub word_within : limit_of 255 left k ≡ 0
+            → here ≡ (past b (end_of (follows (tag_shape t) e)) (at + length (run_at b at)) >>= λ next. accepted (t, next))
+        unfolding head_at
+        word_within l = rw (lt-ltb at (length b) i, its.1, l, its.3)
+            (met_opened its.0 t its.2 (past b (end_of (follows (tag_shape t) e)) (at + length (run_at b at))))
 
-module _ (b : List ℕ) (s : Sort) (left at k : ℕ) where
-  abbrev byte_head : Head s
-  byte_head = P.head_at 255 b s left at k
-
-  pub byte_stop : {n p : ℕ} → head_of byte_head ≡ HeadC.Stop n p → Met.Stop n p ≡ met_of byte_head
-  byte_stop {n} {p} = go byte_head
-    where
-      go : (h : Head s) → head_of h ≡ HeadC.Stop n p → Met.Stop n p ≡ met_of h
-      go (node m next) e = never (cc)
-      go (stop m q) e = cc
-
-  pub byte_node : {g : ShapeC} {next : ℕ} → head_of byte_head ≡ HeadC.Node g next → (at < length b) × (Met.Node (get_or b at 0) g next ≡ met_of byte_head)
-  byte_node {g} {next} = go byte_head ((byte_laws 255 b).head_told s left tt at k)
-    where
-      go : (h : Head s) → Told bytes 255 b (Faulty b) left tt at k h → head_of h ≡ HeadC.Node g next → (at < length b) × (Met.Node (get_or b at 0) g next ≡ met_of h)
-      go (node n m) w e =
-          let a : At b at (tag_of n ∷ []) = record { rest = drop m b; split = w.bytes } in
-          let t = head a in
-          (room a, cc)
-      go (stop n p) w e = never (cc)
+pub ruleset word_laws = (word_ends, word_strange, word_slip)

@@ -4,10 +4,9 @@ pub mod WordLaws
 pub mod TextExact
 pub mod Near
 pub mod Worked
-pub mod Loops
-pub mod Table
-pub mod Writing
-pub mod Numbers
+pub mod Written
+pub mod Named
+pub mod Terms
+pub mod Bytes
 pub mod Heads
-pub mod Conversion
-pub mod Ways
+pub mod Lines

@@ -1,13 +1,16 @@
 -- Runs of bytes: a word is the run before a space or a line feed; a run is compared byte by byte; what is due behind it.
-use Prim.Native.Nat.{ℕ, ◌+◌, ◌≤◌, ◌<◌}
-use mathlib.Core.Path.{◌≡◌, refl, ap, ◌∙◌}
+use Prim.Native.Nat.{ℕ, ◌+◌, ◌-◌, ◌≤◌, ◌<◌}
+use mathlib.Core.Path.{◌≡◌, refl, sym, ap, ◌∙◌}
 use mathlib.Core.Bool.{Bool, true, false, cond, not, ◌&&◌}
 use mathlib.Core.List.{List, [], ◌∷◌, ◌++◌}
 use native.Mathlib.Omega.{arith}
 use lib.Dec.{eqb, ltb}
-use lib.ListN.{length, drop, get_or}
-use lib.Seq.{drop-drop}
-use borrow.Author.Tests.{ltb-true, ltb-false, eqb-true, lt-ltb, eq-eqb}
+use lib.ListN.{length, take, drop, get_or, length-drop}
+use lib.Seq.{drop-drop, take_at, take_all}
+use borrow.Author.Tests.{ltb-true, ltb-false, eqb-true, lt-ltb, le-ltb, eq-eqb, ne_eqb}
+use Rattle.std.specs.Prelude.{Some, None}
+use Rattle.std.specs.List.{position, position_or_len}
+use Rattle.std.proofs.lemmas.List.Recursion.{is_position_or_len}
 use Rattle.ptacl.proofs.Bools.{clash, and_left, and_right}
 use Rattle.files.specs.Refusal.{Read, accepted, refused}
 use Rattle.files.specs.Places.{At}
@@ -57,6 +60,45 @@ run_front (x ∷ xs) = go (run_front xs) (ends x)
 pub run_at_splits : (b : List ℕ) (at : ℕ) → drop at b ≡ run_at b at ++ drop (at + length (run_at b at)) b
 run_at_splits b at = run_front (drop at b) ∙ ap (λ (z : List ℕ). run_at b at ++ z) (drop-drop (length (run_at b at)) at b)
 
+-- so it is cut off where a byte ends it, and else is the whole
+run_length : (xs : List ℕ) → length (run xs) ≡ position_or_len ends xs
+run_length = is_position_or_len (λ xs. length (run xs)) ends refl (λ x xs. go x xs (ends x))
+  where
+    go : (x : ℕ) (xs : List ℕ) (c : Bool) → length (cond c [] (x ∷ run xs)) ≡ cond c 0 (1 + length (run xs))
+    go x xs true = refl
+    go x xs false = omega arith
+
+run_taken : (xs : List ℕ) → take (length (run xs)) xs ≡ run xs
+run_taken xs = ap (take (length (run xs))) (run_front xs) ∙ take_at (run xs) _ (length (run xs)) refl
+
+run_cut : (xs : List ℕ) {n : ℕ} → position ends xs ≡ Some n → take n xs ≡ run xs
+run_cut xs {n} e = rw (sym (found (ltb (position_or_len ends xs) (length xs)) e), sym (run_length xs)) (run_taken xs)
+  where
+    found : (c : Bool) → cond c (Some (position_or_len ends xs)) None ≡ Some n → position_or_len ends xs ≡ n
+    found true e = cc
+    found false e = cc
+
+run_whole : (xs : List ℕ) → position ends xs ≡ None → xs ≡ run xs
+run_whole xs e = sym (take_all (length (run xs)) xs (omega (arith, none (ltb (position_or_len ends xs) (length xs)) refl e, run_length xs))) ∙ run_taken xs
+  where
+    none : (c : Bool) → ltb (position_or_len ends xs) (length xs) ≡ c → cond c (Some (position_or_len ends xs)) None ≡ None → length xs ≤ position_or_len ends xs
+    none true t e = cc
+    none false t e = ltb-false (position_or_len ends xs) (length xs) t
+
+-- a part of the text, from a place on, as it is lent
+module _ (b : List ℕ) (at : ℕ) where
+  abbrev rest : List ℕ
+  rest = take (length b - at) (drop at b)
+
+  rest_is : rest ≡ drop at b
+  rest_is = take_all (length b - at) (drop at b) (omega (arith, length-drop at b))
+
+  pub run_at_cut : (n : ℕ) → position ends rest ≡ Some n → take n rest ≡ run_at b at
+  run_at_cut n e = run_cut rest e ∙ ap run rest_is
+
+  pub run_at_whole : position ends rest ≡ None → rest ≡ run_at b at
+  run_at_whole e = run_whole rest e ∙ ap run rest_is
+
 -- ---- runs that are the same byte by byte are the same
 
 pub same_refl : (xs : List ℕ) → same xs xs ≡ true
@@ -74,6 +116,22 @@ same_true (x ∷ xs) (y ∷ ys) e = rw (eqb-true x y (and_left _ e), same_true x
 pub past_reads : {b : List ℕ} {at : ℕ} (e : End) → At b at (byte_of e ∷ []) → past b e at ≡ accepted (at + 1)
 unfolding past
 past_reads {b} {at} e h = simp (lt-ltb at (length b) (room h), eq-eqb (get_or b at 0) (byte_of e) (head h))
+
+module _ (b : List ℕ) (e : End) (at : ℕ) where
+  pub past_ends : length b ≤ at → at ≤ length b → past b e at ≡ refused 53 at
+  unfolding past
+  past_ends h l = let n : length b ≡ at = omega arith in rw (le-ltb at (length b) h, n)
+
+  module _ (i : at < length b) where
+    pub past_other : (get_or b at 0 ≡ byte_of e → ⊥) → past b e at ≡ refused (another e) at
+    unfolding past
+    past_other d = rw (lt-ltb at (length b) i, ne_eqb _ _ d)
+
+    pub past_on : get_or b at 0 ≡ byte_of e → past b e at ≡ accepted (at + 1)
+    unfolding past
+    past_on d = rw (lt-ltb at (length b) i, eq-eqb _ _ d)
+
+pub ruleset past_laws = (past_ends, past_other, past_on)
 
 pub record Passed (b : List ℕ) (e : End) (at next : ℕ) : Type 0 where
   pub bytes : drop at b ≡ byte_of e ∷ drop next b

@@ -1,4 +1,4 @@
--- Document 02's line of A, a line of both ors, and edges of C-11's refusals, computed.
+-- The line of policy A, a line of both ors, and edges of a text's refusals, computed.
 use Prim.Native.Nat.{ℕ, zero, suc}
 use Prim.Native.String.{String}
 use mathlib.Core.Path.{◌≡◌, refl}

@@ -1,4 +1,8 @@
 pub mod Words
 pub mod Line
 pub mod ReadText
-pub mod Cases
+pub mod Faults
+pub mod Nodes
+pub mod Converting
+pub mod Written
+pub mod Held

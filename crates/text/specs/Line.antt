@@ -1,4 +1,4 @@
--- Document 02, C-11: a policy as one line of words in prefix order, single spaces between, a line feed at the end.
+-- A policy as one line of words in prefix order, single spaces between, a line feed at the end.
 use Rattle.std.specs.Prelude.{ℕ, zero, suc, ◌+◌, ◌/◌, ◌%◌, ◌≡◌, cond, List, [], ◌∷◌, ◌++◌, ltb}
 use Rattle.ptacl.specs.Term.{Sort, Policy, Shape, numbers, leaf, one, two, shape}
 use Rattle.files.specs.Encoding.{Fits}
@@ -42,7 +42,7 @@ words = record {
 unfoldable pub line : Policy → List ℕ
 line p = spell words line_feed p
 
--- this text is the line of that policy, within document 01's limits
+-- this text is the line of that policy, within the limits
 pub record IsText (s : List ℕ) (p : Policy) : Type 0 where
   pub text : s ≡ line p
   pub fits : Fits p

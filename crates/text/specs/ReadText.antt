@@ -1,4 +1,4 @@
--- Document 02, C-11: reading a line, with the first refusal from left to right.
+-- Reading a line, with the first refusal from left to right.
 use Rattle.std.specs.Prelude.{ℕ, ◌+◌, ◌*◌, ◌-◌, Bool, true, false, cond, ◌&&◌, ◌||◌, List, [], ◌∷◌, eqb, ltb, length, get_or, drop}
 use Rattle.ptacl.specs.Request.{Pair}
 use Rattle.ptacl.specs.Term.{Sort, policy, Policy, Node, shape}

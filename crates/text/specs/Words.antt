@@ -1,4 +1,4 @@
--- Document 02, C-11 and C-13: the twelve words.
+-- The twelve words.
 use Rattle.std.specs.Prelude.{ℕ, zero, suc, List, [], ◌∷◌}
 use Prim.Native.Char.{code}
 use Prim.Native.String.{String, len, char_at}

@@ -1,8 +1,16 @@
-// The written form of a policy: reading a line of words into a policy file, and writing the line of a file.
+//! The written form of a policy: reading a line of words into a policy file, and writing the line of a file.
 #![tactic(auto)]
 
-pub mod convert;
-pub mod ends;
-pub mod line;
-pub mod number;
-pub mod words;
+mod convert;
+mod end;
+mod fault;
+mod keyword;
+mod line;
+mod number;
+mod output;
+mod sink;
+mod source;
+mod words;
+
+pub use fault::{TextError, TextFault};
+pub use line::{LONGEST, read_line, write_line};

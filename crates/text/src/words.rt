@@ -1,134 +1,190 @@
-// The twelve words, and the runs of bytes that are compared with them.
-ghost use Rattle.std.specs.Prelude.{◌≡◌, ◌+◌, ◌≤◌, length};
-ghost use Rattle.files.specs.Cases.{sort_of, first_tag, last_tag};
-ghost use Rattle.files.specs.ReadPolicy.{byte_at};
-ghost use Rattle.files.specs.Memory.{Puts};
-ghost use Rattle.text.specs.Line.{ended};
-ghost use Rattle.text.specs.ReadText.{run_at, word_at};
-ghost use Rattle.text.specs.ReadText as R;
-ghost use Rattle.text.specs.Cases.{end_of, IsTag, begins, closes, row_of};
+//! Reading a line.
 
-use crate::ends;
-use crate::ends::End;
-use files::policy::Sort;
-use files::{tags, write};
+ghost use Rattle.std.specs.Prelude.{◌≡◌, ◌+◌, ◌≤◌, length, refl};
+ghost use Rattle.files.specs.Reading.{Place};
+ghost use Rattle.files.specs.Faults.{fault_number};
+ghost use Rattle.text.specs.Line.{End as Due};
+ghost use Rattle.std.specs.List.{position};
+ghost use Rattle.text.specs.ReadText.{ends, run_at, past, number_at, in_words};
+ghost use Rattle.text.specs.Nodes.{end_of};
+ghost use Rattle.text.specs.Faults.{text_fault_number, text_number, text_place, ended_at};
+ghost use Rattle.text.specs.Converting.{Gives};
 
-// In the order of the tags, five bytes each: spaces fill up a shorter word.
-const WORDS: [u8; 60] = *b"tatomtnot topt tand tor  pzeropone ptar pnot pdbd pand por  ";
+use crate::end::End;
+use crate::fault::{TextError, TextFault};
+use crate::source::Source;
+use crate::{keyword, number};
+use files::{Fault, Pair, PolicyError, Sort, Tag, limit};
+use std::marker::Model;
 
-// Where the word of a tag begins in the table.
-#[tactic(auto, using(crate::proofs::Table::tag_low))]
-fn begin(tag: u8) -> usize
-    requires { IsTag tag }
-    ensures { result ≡ begins tag }
-{
-    if tag < tags::DENY {
-        return 5 * (tag - tags::TARGET_ATOM) as usize;
-    }
-    25 + 5 * (tag - tags::DENY) as usize
+/// How far a line has been read.
+// A type of its own beside files' Reader: here the byte that follows a node is read with it, and
+// the faults are a text's, each told by its own number; what both do alike is the trait Source.
+// Not Copy: the kit has none for a struct with a lifetime and a model.
+#[derive(Drop)]
+pub struct Words<'a> {
+    text: &'a [u8],
+    at: usize,
+    nodes: usize,
 }
 
-// Where the word that begins there ends.
-fn close(begin: usize) -> usize
-    requires { begin ≤ 55 }
-    ensures { result ≡ closes begin }
-{
-    if WORDS[begin + 3] == 32 {
-        return begin + 3;
-    }
-    if WORDS[begin + 4] == 32 {
-        return begin + 4;
-    }
-    begin + 5
+impl<'a> Model for Words<'a> {
+    ghost use Rattle.std.specs.Prelude.{◌≤◌, length};
+    ghost use Rattle.files.specs.Reading.{Place};
+
+    ghost Value = { Place };
+
+    ghost view = { λ w. record { bytes = w.text.now; at = w.at; nodes = w.nodes } };
+
+    ghost invariant = { λ w. w.at ≤ length w.text.now };
 }
 
-// Where a run that starts at `at` ends: before a space or a line feed, or at the end of the text.
-pub fn run_end(text: &[u8], at: usize) -> usize
-    requires { at ≤ length text.now }
-    ensures { (result ≡ at + length (run_at text.now at)) × (result ≤ length text.now) }
+/// How many bytes come before a space or a line feed.
+fn run_len(text: &[u8]) -> Option<usize>
+    ensures { result ≡ position ends text.now }
 {
-    let mut i = at;
-    while i < text.len() {
-        let byte = text[i];
-        if byte == 32 {
-            return i;
+    text.iter().position(|&byte| byte == b' ' || byte == b'\n')
+}
+
+impl<'a> Words<'a> {
+    /// Stands at the beginning of a text.
+    pub fn new(text: &'a [u8]) -> Words<'a>
+        ensures { result ≡ record { bytes = text.now; at = 0; nodes = 0 } }
+    {
+        Words {
+            text,
+            at: 0,
+            nodes: 0,
         }
-        if byte == 10 {
-            return i;
+    }
+
+    /// The error of a fault that stands here.
+    fn fault(&self, fault: TextFault) -> TextError
+        ensures number { text_number result ≡ text_fault_number fault }
+        ensures place { text_place result ≡ self.now.at }
+    {
+        TextError::Text {
+            fault,
+            place: self.at,
         }
-        i += 1;
     }
-    i
-}
 
-// Whether two are the same, byte by byte.
-#[tactic(auto, using(crate::proofs::Loops::same_lengths))]
-pub fn same(a: &[u8], b: &[u8]) -> bool
-    ensures { result ≡ R.same a.now b.now }
-{
-    if a.len() != b.len() {
-        return false;
+    /// The error of a policy's limit that is passed here.
+    fn beyond(&self, fault: Fault) -> TextError
+        ensures number { text_number result ≡ fault_number fault }
+        ensures place { text_place result ≡ self.now.at }
+    {
+        TextError::Policy(PolicyError {
+            fault,
+            place: self.at,
+        })
     }
-    let mut i = 0;
-    while i < a.len() {
-        if a[i] != b[i] {
-            return false;
+
+    /// The bytes from here up to a space, a line feed or the end.
+    fn run(&self) -> &'a [u8]
+        ensures run { result.now ≡ run_at self.now.bytes self.now.at }
+        ensures inside { self.now.at + length result.now ≤ length self.now.bytes }
+    {
+        let rest = &self.text[self.at..];
+        match run_len(rest) {
+            Some(len) => &rest[..len],
+            None => rest,
         }
-        i += 1;
     }
-    true
-}
 
-// Whether a run is the word of a tag.
-fn is_word(run: &[u8], tag: u8) -> bool
-    requires { IsTag tag }
-    ensures { result ≡ R.same run.now (row_of tag) }
-{
-    let words = WORDS;
-    let first = begin(tag);
-    same(run, &words[first..close(first)])
-}
-
-fn first_tag(sort: Sort) -> u8
-    ensures { result ≡ first_tag (sort_of sort) }
-{
-    match sort {
-        Sort::Target => tags::TARGET_ATOM,
-        Sort::Policy => tags::DENY,
-    }
-}
-
-fn last_tag(sort: Sort) -> u8
-    ensures { result ≡ last_tag (sort_of sort) }
-{
-    match sort {
-        Sort::Target => tags::TARGET_OR,
-        Sort::Policy => tags::POLICY_OR,
-    }
-}
-
-// The tag of the node of the sort whose word a run is. If there is none, the byte behind the last tag: no node of the sort has it.
-pub fn tag_of(sort: Sort, run: &[u8]) -> u8
-    ensures { byte_at (sort_of sort) result ≡ word_at (sort_of sort) run.now }
-{
-    let mut tag = first_tag(sort);
-    while tag <= last_tag(sort) {
-        if is_word(run, tag) {
-            return tag;
+    /// Goes past a run, and past the byte that is due behind it.
+    #[tactic(auto, using(crate::proofs::Runs::past_laws))]
+    fn pass(&mut self, run: &[u8], end: End) -> Result<(), TextError>
+        requires { self.old.at + length run.now ≤ length self.old.bytes }
+        ensures gives { Gives text_number text_place (λ _. self.new.at) result
+            (past self.old.bytes (end_of end) (self.old.at + length run.now)) }
+        ensures same { (self.new.bytes ≡ self.old.bytes) × (self.new.nodes ≡ self.old.nodes) }
+    {
+        self.at += run.len();
+        match self.text.get(self.at) {
+            None => Err(self.fault(TextFault::Ends)),
+            Some(&byte) if byte == end.byte() => {
+                self.at += 1;
+                Ok(())
+            }
+            Some(_) => Err(self.fault(end.fault())),
         }
-        tag += 1;
     }
-    tag
+
+    /// Reads a number that `end` follows.
+    #[tactic(auto, unfolding(crate::specs::ReadText::number_at))]
+    fn number(&mut self, end: End) -> Result<u16, TextError>
+        ensures gives { Gives text_number text_place (λ number. (number, self.new.at)) result
+            (number_at self.old.bytes (end_of end) self.old.at) }
+        ensures same { (self.new.bytes ≡ self.old.bytes) × (self.new.nodes ≡ self.old.nodes) }
+    {
+        let run = self.run();
+        let Some(number) = number::number_of(run) else {
+            return Err(self.fault(TextFault::Number));
+        };
+        self.pass(run, end)?;
+        Ok(number)
+    }
+
+    /// Whether the text ends here, as it must behind the line feed.
+    // Like Reader's `end`, but of a text's fault: one for both would take the fault as a parameter,
+    // no plainer than these three lines.
+    pub fn end(&self) -> Result<(), TextError>
+        ensures { Gives text_number text_place (λ x. x) result (ended_at self.now) }
+    {
+        if self.at < self.text.len() {
+            return Err(self.fault(TextFault::LineFeed));
+        }
+        Ok(())
+    }
 }
 
-// The word of a tag at `to`, with what follows it: the place behind.
-pub fn put_word(tag: u8, end: End, space: &mut [u8], to: usize) -> usize
-    requires { IsTag tag × (to + 6 ≤ length space.old) }
-    ensures { Puts (ended (row_of tag) (end_of end)) to space.old space.new result }
-{
-    let words = WORDS;
-    let first = begin(tag);
-    let last = write::copy(&words[first..close(first)], space, to);
-    space[last] = ends::byte_of(end);
-    last + 1
+impl<'a> Source for Words<'a> {
+    type Error = TextError;
+
+    ghost Follows = { Due };
+
+    ghost follows = { λ e. e };
+
+    ghost reader = { λ b. in_words 255 b };
+
+    ghost bytes = { λ w. w.bytes };
+
+    ghost at = { λ w. w.at };
+
+    ghost nodes = { λ w. w.nodes };
+
+    ghost number = { text_number };
+
+    ghost place = { text_place };
+
+    ghost between = { λ b. refl };
+
+    #[tactic(auto, using(crate::proofs::Heads::word_laws, files::proofs::Nodes::kept_deep, files::proofs::Nodes::kept_few))]
+    fn next_node(&mut self, sort: Sort, left: usize, end: End) -> Result<Tag, TextError> {
+        if self.at == self.text.len() {
+            return Err(self.fault(TextFault::Ends));
+        }
+        let run = self.run();
+        let Some(tag) = keyword::node_of(run) else {
+            return Err(self.fault(TextFault::Word));
+        };
+        if !tag.is_of(sort) {
+            return Err(self.fault(TextFault::Word));
+        }
+        // `map_err` was tried: `search` leaves the refusal open, as a goal about its closure.
+        if let Err(fault) = limit(left, self.nodes) {
+            return Err(self.beyond(fault));
+        }
+        self.pass(run, end.behind(tag.shape()))?;
+        self.nodes += 1;
+        Ok(tag)
+    }
+
+    #[tactic(auto, unfolding(crate::specs::ReadText::pair_at))]
+    fn next_pair(&mut self, end: End) -> Result<Pair, TextError> {
+        let name = self.number(End::Space)?;
+        let value = self.number(end)?;
+        Ok(Pair { name, value })
+    }
 }

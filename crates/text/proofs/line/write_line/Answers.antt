@@ -1,20 +1,26 @@
--- `write_line` looks at the frame, and converts the body.
-use mathlib.Core.Path.{sym}
-use native.Mathlib.Omega.{arith}
-use Rattle.files.specs.ReadPolicy.{read_policy}
-use Rattle.files.proofs.Framing.{whole_file, whole_frame, refused_frame}
-use Rattle.text.specs.Line.{line}
-use Rattle.text.specs.Cases.{not_given}
-use Rattle.text.proofs.Conversion.{parses_given}
+-- At each return, what the reader tells of the body is what reading the file gives.
+use Rattle.std.proofs.Common.{rules, refl}
+use Rattle.files.proofs.Framing.{lent_bytes}
+use Rattle.files.proofs.Whole.{whole_refused, whole_exceeded, whole_read}
+use Rattle.text.specs.Line.{line_feed, words}
+use Rattle.text.specs.Converting.{behind}
+use Rattle.text.specs.Written.{written}
+use Rattle.text.proofs.Lines.{line_held}
 use Rattle.text.proofs.line.write_line.Goals as goal
 
-pub returns-in-Refused : goal.returns-in-Refused
-unfolding read_policy
-returns-in-Refused c = rw (refused_frame 1 c.args.file.now _ (sym c.in-Refused.ensures)) not_given
+pub returns-in_err-convert-clause-err : goal.returns-in_err-convert-clause-err
+returns-in_err-convert-clause-err c =
+    let e = whole_refused (behind words line_feed (written c.new-output.result)) c.in_ok-reader.ensures.opened c.in_err-convert.ensures.gives in search rules
 
-pub convert_policy-requires : goal.convert_policy-requires
-convert_policy-requires c = ((whole_file 1 c.args.file.now (sym c.in_default.ensures)).long, omega arith, c.requires)
+pub returns-in_err-finish-clause-err : goal.returns-in_err-finish-clause-err
+returns-in_err-finish-clause-err c =
+    let e = whole_exceeded (behind words line_feed (written c.new-output.result)) c.in_ok-reader.ensures.opened
+    (c.in_ok-convert.ensures.gives, c.in_ok-convert.ensures.same_bytes) c.in_err-finish.ensures in search rules
 
-pub returns : goal.returns
-unfolding read_policy line
-returns c = rw (whole_frame 1 c.args.file.now _ (sym c.in_default.ensures)) (parses_given c.convert_policy.ensures)
+pub returns-clause-ok : goal.returns-clause-ok
+returns-clause-ok c =
+    let r = whole_read (behind words line_feed (written c.new-output.result)) c.in_ok-reader.ensures.opened
+    (c.in_ok-convert.ensures.gives, c.in_ok-convert.ensures.same_bytes) c.in_ok-finish.ensures in
+    let o = c.convert.new.output in
+    rw c.len.ensures
+    (line_held o.space.now o.len o.inside (written c.new-output.result) (rw c.new-output.ensures.empty refl) _ (lent_bytes c.type_inv.file) (search rules) r)
