@@ -1,5 +1,7 @@
 pub mod Taken
 pub mod Written
+pub mod Listed
+pub mod Refusals
 pub mod DecideOne
 pub mod FlatSame
 pub mod ListPairsOne

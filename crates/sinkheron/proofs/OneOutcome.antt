@@ -1,8 +1,9 @@
--- How a promise is shown to leave one outcome: each way keeps it, and a definition back from answers tells the enum's cases apart.
+-- How a promise is shown to leave one outcome: each way keeps it, and a definition back from answers tells the results apart.
 use Prim.Native.Nat.{ℕ}
 use mathlib.Core.Path.{◌≡◌, refl, sym, ap, subst, ◌∙◌}
 use mathlib.Core.Bool.{Bool, true≢false}
 use mathlib.Core.List.{List}
+use Rattle.std.specs.Prelude.{Result, Ok, Err}
 use Rattle.ptacl.specs.Request.{Request}
 use Rattle.ptacl.specs.Term.{Policy}
 use Rattle.ptacl.proofs.Bools.{clash}
@@ -10,7 +11,10 @@ use Rattle.files.specs.Refusal.{Read, accepted}
 use Rattle.files.proofs.PolicyExact.{policy_reads}
 use Rattle.files.proofs.RequestExact.{request_reads}
 use Rattle.text.proofs.TextExact.{text_reads}
-use Rattle.sinkheron.specs.Answer.{Answer, refusal, Promise, OneOutcome}
+use Rattle.sinkheron.specs.Answer.{Answer, refusal, success, Promise, OneOutcome}
+use Rattle.sinkheron.specs.Refusals.{answer_of}
+use Rattle.sinkheron.specs.declared.refusal.Refusal.{Refusal}
+use Rattle.sinkheron.proofs.Refusals.{refusal_of, refusal_back}
 use Rattle.sinkheron.specs.Ways.{OfPolicy, OfText, OfRequest, Reads, unread, holding, The, the, RefusedIf, stops, passes, Gives, gives}
 use Rattle.sinkheron.proofs.Ranges.{Ranged}
 
@@ -18,15 +22,28 @@ use Rattle.sinkheron.proofs.Ranges.{Ranged}
 abbrev pub One : {A M : Type 0} → Promise A M → Type 0
 One {A} {M} permits = (x y : Answer A) (m m' : M) → permits x m → permits y m' → ◌≡◌ {A = Answer A × M} (x, m) (y, m')
 
-module _ {E A M : Type 0} {answer_of : E → Answer A} {permits : Promise A M} {can : A → Type 0} where
-  pub one_outcome : (back : Answer A → E) → ((r : E) → back (answer_of r) ≡ r) → One permits → Ranged can permits → OneOutcome answer_of permits
-  one_outcome back its one ranged = record {
-    outcomes = λ {r} {r'} d e.
-        let h = one _ _ _ _ d e in
-        let s : r ≡ r' = sym (its r) ∙ (ap (λ (z : Answer A × M). back z.0) h ∙ its r') in
-        λ i. (s i, (h i).1);
-    refusals = λ d. (ranged _ _ d).0;
-  }
+-- the result that an answer is told of, where the values tell what succeeded
+module _ {E A : Type 0} (of_values : A → E) where
+  abbrev result_of : Answer A → Result E Refusal
+  result_of (refusal n at) = Err (refusal_of n at)
+  result_of (success v) = Ok (of_values v)
+
+  module _ (values : E → A) (its : (a : E) → of_values (values a) ≡ a) where
+    result_back : (r : Result E Refusal) → result_of (answer_of values r) ≡ r
+    result_back (Ok a) = ap Ok (its a)
+    result_back (Err e) = ap Err (refusal_back e)
+
+    pub results_same : (r r' : Result E Refusal) → answer_of values r ≡ answer_of values r' → r ≡ r'
+    results_same r r' e = sym (result_back r) ∙ (ap result_of e ∙ result_back r')
+
+    pub one_outcome : {M : Type 0} {permits : Promise A M} {can : A → Type 0} → One permits → Ranged can permits → OneOutcome (answer_of values) permits
+    one_outcome one ranged = record {
+      outcomes = λ {r} {r'} d e.
+          let h = one _ _ _ _ d e in
+          let s = results_same r r' (ap (λ z. z.0) h) in
+          λ i. (s i, (h i).1);
+      refusals = λ d. (ranged _ _ d).0;
+    }
 
 module _ {A M : Type 0} where
   reads_one : {F : Type 0} {read : Read F} {IsFile : F → Type 0} {before : M} {follows : F → Promise A M}

@@ -23,6 +23,7 @@ use Rattle.ptacl.proofs.Subset.{mask, normal_subset}
 use Rattle.ptacl.proofs.Exposed.{exposure_index}
 use borrow.Author.Tests.{ltb-true, ltb-false}
 use Rattle.files.specs.Encoding.{Bytes, request_file, IsPolicy, IsRequest}
+use Rattle.files.proofs.Framing.{lent_bytes}
 use Rattle.files.proofs.Memory.{request_length}
 use Rattle.files.proofs.PolicyExact.{refused_place}
 use Rattle.files.proofs.RequestExact.{request_refused_range}
@@ -126,6 +127,8 @@ write_text_ranged b = policy_ranged b (λ p f. refused_if_ranged refl (λ e. giv
 pub place_small : (x : Answer ℕ) → Range (λ k. k ≤ 7) x → place x ≤ 65538
 place_small (refusal n at) r = r.2
 place_small (success k) r = omega arith
+
+pub ruleset decision_laws = (lent_bytes, decide_ranged, place_small)
 
 -- whatever was written, its length has room in its bits
 pub output_small : (most : ℕ) → most ≤ 65535 → (x : Answer ℕ) → Range (λ k. k ≤ most) x → Small x

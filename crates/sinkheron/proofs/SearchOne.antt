@@ -16,9 +16,9 @@ use Rattle.ptacl.proofs.First.{first_unique}
 use Rattle.ptacl.proofs.Spelled.{spelled_resistant, spelled_first}
 use Rattle.files.specs.Encoding.{Bytes, IsPolicy}
 use Rattle.files.proofs.PolicyComplete.{policy_read_one}
-use Rattle.sinkheron.specs.declared.Searched.{Searched}
-use Rattle.sinkheron.specs.Answer.{Answer, refusal, success, OneOutcome}
-use Rattle.sinkheron.specs.Search.{Values, answer_of, Judges, Searches, is_resistant, is_exposed}
+use Rattle.sinkheron.specs.declared.Verdict.{Verdict}
+use Rattle.sinkheron.specs.Answer.{Answer, success, OneOutcome}
+use Rattle.sinkheron.specs.Search.{Values, values_of, answer_of, Judges, Searches, is_resistant, is_exposed}
 use Rattle.sinkheron.specs.Ways.{holding, the, passes}
 use Rattle.sinkheron.proofs.Ranges.{search_ranged}
 use Rattle.sinkheron.proofs.OneOutcome.{One, one_outcome, policy_one, the_one, refused_if_one}
@@ -29,20 +29,21 @@ judges_one _ _ _ _ (is_resistant r) (is_exposed h) = absurd (unexposed r h.hit)
 judges_one _ _ _ _ (is_exposed h) (is_resistant r) = absurd (unexposed r h.hit)
 judges_one _ _ _ _ (is_exposed h) (is_exposed k) = let e = first_unique h k in rw (e.0, e.1)
 
-abbrev back : Answer Values → Searched
-back (refusal n at) = Searched.Refused n at
-back (success v) = cond (eqb v.verdict 0) (Searched.Resistant v.pairs) (Searched.Exposed v.pairs v.subset v.hides v.bytes)
+abbrev verdict_of : Values → Verdict
+verdict_of v = cond (eqb v.verdict 0) (Verdict.Resistant v.pairs) (Verdict.Exposed v.pairs v.subset v.hides v.bytes)
 
-its : (r : Searched) → back (answer_of r) ≡ r
-its (Searched.Refused n at) = refl
-its (Searched.Resistant k) = refl
-its (Searched.Exposed k m i b) = refl
+its : (v : Verdict) → verdict_of (values_of v) ≡ v
+its (Verdict.Resistant k) = refl
+its (Verdict.Exposed k m i b) = refl
+
+-- whatever the bytes, one answer
+pub search_same : {policy before : List ℕ} → One (Searches policy before)
+search_same = policy_one (λ p. the_one (λ t u h k. pairs_unique h k) (λ ps. refused_if_one (refused_if_one judges_one)))
 
 pub search_one : {policy before : List ℕ} → Bytes policy → OneOutcome answer_of (Searches policy before)
-search_one b =
-    one_outcome back its (policy_one (λ p. the_one (λ t u h k. pairs_unique h k) (λ ps. refused_if_one (refused_if_one judges_one)))) (search_ranged b)
+search_one b = one_outcome verdict_of values_of its search_same (search_ranged b)
 
--- demand 3: where there is no refusal, resistant exactly as defined
+-- where there is no refusal, resistant exactly as defined
 pub verdict_means : {policy before after : List ℕ} {v : Values} {p : Policy} → IsPolicy policy p → Searches policy before (success v) after
     → (v.verdict ≡ 0) ↔ Resistant p
 verdict_means {before = before} {p = p} f (holding {f = p'} g (the {t = ps} h (passes l (passes k j)))) = judged j
@@ -51,7 +52,7 @@ verdict_means {before = before} {p = p} f (holding {f = p'} g (the {t = ps} h (p
     judged (is_resistant r) = (λ e. subst Resistant (policy_read_one g f) r, λ k. refl)
     judged (is_exposed e) = (λ e. absurd (omega arith), λ r. absurd (unexposed (subst Resistant (policy_read_one f g) r) e.hit))
 
--- document 02, C-13: whatever a search may answer and leave in the space for a policy, it may for the policy with every or spelled out
+-- whatever a search may answer and leave in the space for a policy, it may for the policy with every or spelled out
 pub spelled_judged : {p : Policy} {ps : List Pair} {before after : List ℕ} {a : Answer Values}
     → Judges (spelled p) ps before a after ↔ Judges p ps before a after
 spelled_judged {p} {ps} {before} = (there, back)

@@ -1,117 +1,88 @@
--- What an operation knows of its files once they were accepted: the policy and the request that they hold.
+-- From what a call of an operation gave, as its contract says it, to the operation's promise: a refusal handed on by `?`, or what a
+-- file was read as.
 use Prim.Native.Nat.{ℕ}
-use mathlib.Core.Path.{◌≡◌, refl, sym, ap, ◌∙◌}
+use mathlib.Core.Path.{◌≡◌, refl, sym, ap}
 use mathlib.Core.Bool.{true≢false}
-use mathlib.Core.List.{List, map}
-use native.Mathlib.Omega.{arith}
+use mathlib.Core.List.{List}
 use mir.Syntax.{w8}
 use mir.Val.{Fits}
-use lib.ListN.{length, get_or, take}
+use lib.ListN.{get_or}
+use Rattle.std.specs.Prelude.{Result, Ok, Err, IsErr, IsErrAnd}
 use Rattle.ptacl.specs.Request.{Request}
 use Rattle.ptacl.specs.Term.{Policy}
-use Rattle.ptacl.specs.Pairs.{unpacked}
-use Rattle.files.specs.Encoding.{enc, framed, request_file, IsPolicy, IsRequest}
 use Rattle.files.specs.Refusal.{Read, accepted, refused}
 use Rattle.files.specs.ReadPolicy.{read_policy}
 use Rattle.files.specs.ReadRequest.{read_request}
-use Rattle.files.specs.Places.{At, PolicyFile, BodyOf, numbers_of}
-use Rattle.files.specs.Cases.{policy_read, request_read}
-use Rattle.files.specs.declared.policy.PolicyRead.{PolicyRead}
-use Rattle.files.specs.declared.request.RequestRead.{RequestRead}
+use Rattle.files.specs.Faults.{fault_number, request_fault_number}
+use Rattle.files.specs.Reading.{read_map}
+use Rattle.files.specs.declared.fault.PolicyError.{PolicyError}
+use Rattle.files.specs.declared.fault.RequestError.{RequestError}
 use Rattle.files.proofs.Framing.{lent_bytes}
 use Rattle.files.proofs.PolicyExact.{policy_exact}
-use Rattle.files.proofs.RequestExact.{request_exact, request_accepted, numbers_request}
-use Rattle.files.proofs.View.{policy_file_read, policy_refused, body_at}
-use Rattle.evaluate.specs.Ordered.{OrderedFile}
-use Rattle.flat.specs.Places.{Noted}
-use Rattle.flat.specs.Read.{FlatReads}
-use Rattle.flat.specs.declared.read.FlatRead.{FlatRead}
-use Rattle.sinkheron.specs.declared.FilesRead.{FilesRead}
-use Rattle.sinkheron.specs.Files.{files_read}
-use Rattle.sinkheron.specs.Answer.{refusal, Promise}
-use Rattle.sinkheron.specs.Ways.{OfPolicy, OfRequest, unread, holding}
+use Rattle.files.proofs.RequestExact.{request_exact}
+use Rattle.text.specs.ReadText.{read_text}
+use Rattle.text.specs.Faults.{text_number, text_place}
+use Rattle.text.specs.declared.fault.TextError.{TextError}
+use Rattle.sinkheron.specs.declared.refusal.Refusal.{Refusal}
+use Rattle.sinkheron.specs.Answer.{Answer, refusal, Promise}
+use Rattle.sinkheron.specs.Refusals.{refusal_number, refusal_place, answer_of}
+use Rattle.sinkheron.specs.Refusals.{OfTextError}
+use Rattle.sinkheron.specs.Ways.{OfPolicy, OfText, OfRequest, unread, holding}
 
--- each lemma takes what a call answered, as its contract says it and as the code then found it
+-- what `?` hands on of a refusal
+abbrev pub Hands : {A : Type 0} → Result A Refusal → Refusal → Type 0
+Hands r x = IsErr r × IsErrAnd r (λ y. y ≡ x)
 
-pub policy_unread : {A M : Type 0} {s : List ℕ} {before : M} {follows : Policy → Promise A M} {r : PolicyRead} {n at : ℕ}
-    → r ≡ policy_read (read_policy s) → r ≡ PolicyRead.Refused n at → OfPolicy s before follows (refusal n at) before
-policy_unread {s = s} e h = unread (policy_refused (read_policy s) (sym e ∙ h))
+pub handed_on : {A V : Type 0} (values : A → V) (r : Result A Refusal) (x : Refusal) → Hands r x
+    → answer_of values r ≡ refusal (refusal_number x) (refusal_place x)
+handed_on values (Err y) x h = ap (λ z. refusal (refusal_number z) (refusal_place z)) h.1
+handed_on values (Ok a) x h = absurd (true≢false (sym h.0))
 
-pub policy_taken : {s : List ℕ} {r : PolicyRead} → ((i : ℕ) → Fits w8 (get_or s i 0)) → r ≡ policy_read (read_policy s) → r ≡ PolicyRead.Accepted
-    → PolicyFile s
-policy_taken b e h = policy_file_read (lent_bytes b) (sym e ∙ h)
+text_on : {A V : Type 0} (values : A → V) (r : Result A Refusal) (e : TextError) → IsErr r × IsErrAnd r (OfTextError e)
+    → answer_of values r ≡ refusal (text_number e) (text_place e)
+text_on values (Err y) e h = rw (h.1.0, h.1.1)
+text_on values (Ok a) e h = absurd (true≢false (sym h.0))
 
--- the places of its nodes
-pub places_noted : {s xs : List ℕ} {r : FlatRead} {n : ℕ} → FlatReads s r xs → r ≡ FlatRead.Accepted n → PolicyFile s → Noted s (take n xs)
-places_noted k h f = record { term = f.term; file = f.file; nodes = k.noted h f.term f.file }
+-- a refusal of what was told of a policy is the file's
+map_refused : {A B : Type 0} (f : A → B) (x : Read A) {n p : ℕ} → read_map f x ≡ refused n p → x ≡ refused n p
+map_refused f (accepted a) e = cc
+map_refused f (refused m q) e = cc
 
--- the policy, by the body that is lent to the passes
-pub record Lent (s b : List ℕ) : Type 0 where
-  pub term : Policy
-  pub file : IsPolicy s term
-  pub bytes : b ≡ enc term
-  pub here : At b 0 (enc term)
+map_accepted : {A B : Type 0} (f : A → B) (x : Read A) {y : B} → read_map f x ≡ accepted y → (a : A) × (x ≡ accepted a) × (f a ≡ y)
+map_accepted f (accepted a) e = (a, refl, cc)
+map_accepted f (refused m q) e = cc
 
-pub body_lent : {s b : List ℕ} → PolicyFile s → BodyOf s b → Lent s b
-body_lent f e =
-    let k = e.right f.term f.file in
-    record { term = f.term; file = f.file; bytes = k; here = body_at f.term k }
+module _ {A V M : Type 0} (values : A → V) (r : Result A Refusal) {s : List ℕ} {before : M} where
+  pub policy_handed : {follows : Policy → Promise V M} (e : PolicyError)
+      → read_policy s ≡ refused (fault_number e.fault) e.place → Hands r (Refusal.Policy e) → OfPolicy s before follows (answer_of values r) before
+  policy_handed e h k = rw (handed_on values r _ k) (unread h)
 
-pub record Sent (s : List ℕ) : Type 0 where
-  pub request : Request
-  pub file : IsRequest s request
-  pub pairs : map unpacked (numbers_of s) ≡ request
-  pub ordered : OrderedFile s
+  pub told_handed : {B : Type 0} {follows : Policy → Promise V M} (f : Policy → B) (e : PolicyError)
+      → read_map f (read_policy s) ≡ refused (fault_number e.fault) e.place → Hands r (Refusal.Policy e) → OfPolicy s before follows (answer_of values r) before
+  told_handed f e h k = policy_handed e (map_refused f _ h) k
 
-request_sent : {s : List ℕ} {q : Request} → ((i : ℕ) → Fits w8 (get_or s i 0)) → read_request s ≡ accepted q → Sent s
-unfolding request_file framed
-request_sent {s} {q} b e =
-    let i = (request_exact 21 s (lent_bytes b) q).0 e in
-    let n = numbers_request i in
-    record {
-      request = q;
-      file = i;
-      pairs = n;
-      ordered = record { long = omega (arith, ap length i.file); ordered = record { rises = rw n i.fits.ordered } };
-    }
+  pub request_handed : {follows : Request → Promise V M} (e : RequestError)
+      → read_request s ≡ refused (request_fault_number e.fault) e.place → Hands r (Refusal.Request e) → OfRequest s before follows (answer_of values r) before
+  request_handed e h k = rw (handed_on values r _ k) (unread h)
 
-pub request_taken : {s : List ℕ} {r : RequestRead} → ((i : ℕ) → Fits w8 (get_or s i 0)) → r ≡ request_read (read_request s) → r ≡ RequestRead.Accepted
-    → Sent s
-request_taken {s} b e h = request_sent b (request_accepted (read_request s) (sym e ∙ h)).1
+  pub text_handed : {follows : Policy → Promise V M} (e : TextError)
+      → read_text s ≡ refused (text_number e) (text_place e) → IsErr r × IsErrAnd r (OfTextError e) → OfText s before follows (answer_of values r) before
+  text_handed e h k = rw (text_on values r e k) (unread h)
 
-pub request_ordered : {s : List ℕ} {r : RequestRead} → ((i : ℕ) → Fits w8 (get_or s i 0)) → r ≡ request_read (read_request s)
-    → r ≡ RequestRead.Accepted → OrderedFile s
-request_ordered b e h = (request_taken b e h).ordered
+module _ {V M : Type 0} {s : List ℕ} {before after : M} {x : Answer V} (b : (i : ℕ) → Fits w8 (get_or s i 0)) where
+  pub policy_taken : {p : Policy} {follows : Policy → Promise V M} → read_policy s ≡ accepted p → follows p x after → OfPolicy s before follows x after
+  policy_taken e d = holding ((policy_exact s (lent_bytes b) _).0 e) d
 
-same_refusal : {A : Type 0} {m b n at : ℕ} → FilesRead.Refused m b ≡ FilesRead.Refused n at → ◌≡◌ {A = Read A} (refused m b) (refused n at)
-same_refusal e = cc
+  pub request_taken : {q : Request} {follows : Request → Promise V M} → read_request s ≡ accepted q → follows q x after → OfRequest s before follows x after
+  request_taken e d = holding ((request_exact 21 s (lent_bytes b) _).0 e) d
 
--- both files: the first refusal, or the policy and the request
-module _ (s t : List ℕ) {r : FilesRead} (bytes : (i : ℕ) → Fits w8 (get_or s i 0)) (e : r ≡ files_read (read_policy s) (read_request t)) where
-  pub files_unread : {A M : Type 0} {before : M} {follows : Policy → Request → Promise A M} {n at : ℕ} → r ≡ FilesRead.Refused n at
-      → OfPolicy s before (λ p. OfRequest t before (follows p)) (refusal n at) before
-  files_unread {before = before} {follows = follows} {n = n} {at = at} h = go (read_policy s) refl (read_request t) refl (sym e ∙ h)
-    where
-      go : (x : Read Policy) → read_policy s ≡ x → (y : Read Request) → read_request t ≡ y → files_read x y ≡ FilesRead.Refused n at
-          → OfPolicy s before (λ p. OfRequest t before (follows p)) (refusal n at) before
-      go (refused m b) d y k h = unread (d ∙ same_refusal h)
-      go (accepted p) d (refused m b) k h = holding ((policy_exact s (lent_bytes bytes) p).0 d) (unread (k ∙ same_refusal h))
-      go (accepted p) d (accepted q) k h = absurd (true≢false cc)
+  -- the policy of which something was told
+  pub told_taken : {B : Type 0} {follows : Policy → Promise V M} (f : Policy → B) {y : B} → read_map f (read_policy s) ≡ accepted y
+      → ((p : Policy) → f p ≡ y → follows p x after) → OfPolicy s before follows x after
+  told_taken f e d = let a = map_accepted f (read_policy s) e in policy_taken a.1 (d a.0 a.2)
 
-  module _ (more : (i : ℕ) → Fits w8 (get_or t i 0)) (h : r ≡ FilesRead.Accepted) where
-    files_taken : PolicyFile s × Sent t
-    files_taken = go (read_policy s) refl (read_request t) refl (sym e ∙ h)
-      where
-        go : (x : Read Policy) → read_policy s ≡ x → (y : Read Request) → read_request t ≡ y → files_read x y ≡ FilesRead.Accepted → PolicyFile s × Sent t
-        go (refused m b) d y k h = absurd (true≢false cc)
-        go (accepted p) d (refused m b) k h = absurd (true≢false cc)
-        go (accepted p) d (accepted q) k h = (record { term = p; file = (policy_exact s (lent_bytes bytes) p).0 d }, request_sent more k)
+pub request_unread : {V M : Type 0} {s : List ℕ} {before : M} {follows : Request → Promise V M} {n at : ℕ} → read_request s ≡ refused n at
+    → OfRequest s before follows (refusal n at) before
+request_unread = unread
 
-    pub files_policy : PolicyFile s
-    files_policy = files_taken.0
-
-    pub files_request : Sent t
-    files_request = files_taken.1
-
-    pub files_ordered : OrderedFile t
-    files_ordered = files_taken.1.ordered
+pub ruleset file_laws = (policy_handed, told_handed, request_handed, text_handed, policy_taken, request_taken, request_unread)

@@ -1,4 +1,4 @@
--- Document 01's worked policies, and the policies of document 02's or, from their bodies: each is read to the term of ptacl's table, which holds of it, and the files of each
+-- The worked policies A to I, from their bodies: each is read to the term of ptacl's table, which holds of it, and the files of each
 -- exposure are told. Beside it the edge of 16 pairs.
 use Prim.Native.Nat.{ℕ, zero, suc}
 use mathlib.Core.Path.{◌≡◌, refl}
@@ -13,7 +13,7 @@ use Rattle.files.specs.Prefix.{below, body, scan}
 use Rattle.files.specs.ReadPolicy.{byte_at, head_at, pair_at, read_policy}
 use Rattle.search.specs.Found.{two_files, exposure_files}
 
--- A to E as document 01 writes them; G, the same with its or spelled out, H and I; F and deny
+-- A to E as they are given; G, the same with its or spelled out, H and I; F and deny
 abbrev pub bodies : List (List ℕ)
 bodies =
     (0x23 ∷ 0x24 ∷ 0x23 ∷ 0x22 ∷ 0x10 ∷ 0 ∷ 1 ∷ 0 ∷ 1 ∷ 0x20 ∷ [])
@@ -29,7 +29,7 @@ bodies =
     ∷ (0x20 ∷ [])
     ∷ []
 
--- what a search leaves at the front of the space: for A the 18 bytes of document 01
+-- what a search leaves at the front of the space: for A its 18 bytes
 abbrev pub fronts : List (List ℕ)
 fronts =
     (1 ∷ 0 ∷ 4 ∷ 0 ∷ 1 ∷ 0 ∷ 0 ∷ 1 ∷ 0 ∷ 8 ∷ 0 ∷ 1 ∷ 0 ∷ 0 ∷ 0 ∷ 1 ∷ 0 ∷ 1 ∷ [])

@@ -1,5 +1,4 @@
--- Document 01, "Refusal numbers" and "How tight the statements are": what a public operation answers, what a promise is, and when
--- it leaves one outcome. The C face's packed word.
+-- What a public operation answers, what a promise is, and when it leaves one outcome. The C face's packed word.
 use Rattle.std.specs.Prelude.{ℕ, ◌+◌, ◌*◌, ◌^◌, ◌<◌, ◌≡◌}
 
 -- a refusal with its number and place, or a success with its values
@@ -24,7 +23,7 @@ value f (success v) = f v
 abbrev pub Promise : Type 0 → Type 0 → Type 1
 Promise A M = Answer A → M → Type 0
 
--- for an input there is one value of the code's enum, and with it one content of the lent memory; a refusal's number is above 0
+-- for an input there is one value of the code's type, and with it one content of the lent memory; a refusal's number is above 0
 pub record OneOutcome {E A M : Type 0} (answer_of : E → Answer A) (permits : Promise A M) : Type 0 where
   pub outcomes : {r r' : E} {m m' : M} → permits (answer_of r) m → permits (answer_of r') m' → ◌≡◌ {A = E × M} (r, m) (r', m')
   pub refusals : {n at : ℕ} {m : M} → permits (refusal n at) m → 0 < n

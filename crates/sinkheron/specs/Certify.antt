@@ -1,14 +1,16 @@
 -- The promise of certify. No memory is lent, so nothing (tt) is held before and after.
-use Rattle.std.specs.Prelude.{ℕ, ◌*◌, ◌^◌, List}
+use Rattle.std.specs.Prelude.{ℕ, ◌*◌, ◌^◌, List, Option, Result}
 use Rattle.ptacl.specs.Rules.{Certificate}
-use Rattle.sinkheron.specs.Answer.{Answer, refusal, success, Promise}
+use Rattle.certify.specs.Numbers.{number_of}
+use Rattle.certify.specs.declared.rule.Rule.{Rule}
+use Rattle.sinkheron.specs.Answer.{Answer, Promise}
 use Rattle.sinkheron.specs.Ways.{OfPolicy, The, Gives}
-use Rattle.sinkheron.specs.declared.Certified.{Certified}
+use Rattle.sinkheron.specs.Refusals as R
+use Rattle.sinkheron.specs.declared.refusal.Refusal.{Refusal}
 
 -- the certificate's number; at the C face in bits 12 to 15
-abbrev pub answer_of : Certified → Answer ℕ
-answer_of (Certified.Refused n at) = refusal n at
-answer_of (Certified.By k) = success k
+abbrev pub answer_of : Result (Option Rule) Refusal → Answer ℕ
+answer_of r = R.answer_of number_of r
 
 abbrev pub bits : ℕ → ℕ
 bits k = k * 2 ^ 12

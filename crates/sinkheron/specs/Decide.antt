@@ -1,15 +1,16 @@
 -- The promise of decide. No memory is lent, so nothing (tt) is held before and after.
-use Rattle.std.specs.Prelude.{ℕ, ◌*◌, ◌^◌, List, eqb}
+use Rattle.std.specs.Prelude.{ℕ, ◌*◌, ◌^◌, List, eqb, Result}
 use Rattle.ptacl.specs.Values.{is_empty, code}
 use Rattle.ptacl.specs.Meaning.{eval}
-use Rattle.sinkheron.specs.Answer.{Answer, refusal, success, Promise}
+use Rattle.ptacl.specs.declared.DecisionSet.{DecisionSet}
+use Rattle.sinkheron.specs.Answer.{Answer, Promise}
 use Rattle.sinkheron.specs.Ways.{OfPolicy, OfRequest, RefusedIf, Gives}
-use Rattle.sinkheron.specs.declared.Decision.{Decision}
+use Rattle.sinkheron.specs.Refusals as R
+use Rattle.sinkheron.specs.declared.refusal.Refusal.{Refusal}
 
 -- the set's code; at the C face in bits 8 to 10
-abbrev pub answer_of : Decision → Answer ℕ
-answer_of (Decision.Refused n at) = refusal n at
-answer_of (Decision.Decided s) = success s.code
+abbrev pub answer_of : Result DecisionSet Refusal → Answer ℕ
+answer_of r = R.answer_of (λ set. set.code) r
 
 abbrev pub bits : ℕ → ℕ
 bits s = s * 2 ^ 8

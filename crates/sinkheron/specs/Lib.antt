@@ -1,5 +1,5 @@
-pub mod Files
 pub mod Answer
+pub mod Refusals
 pub mod Ways
 pub mod Decide
 pub mod ListPairs

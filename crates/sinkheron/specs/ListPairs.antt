@@ -1,15 +1,15 @@
 -- The promise of list_pairs.
-use Rattle.std.specs.Prelude.{ℕ, ◌*◌, ◌^◌, List, map}
+use Rattle.std.specs.Prelude.{ℕ, ◌*◌, ◌^◌, List, map, Result}
 use Rattle.ptacl.specs.Term.{atoms}
 use Rattle.ptacl.specs.Pairs.{IsPairs, packed}
-use Rattle.sinkheron.specs.Answer.{Answer, refusal, success, Promise}
+use Rattle.sinkheron.specs.Answer.{Answer, Promise}
 use Rattle.sinkheron.specs.Ways.{OfPolicy, The, Writes}
-use Rattle.sinkheron.specs.declared.Listing.{Listing}
+use Rattle.sinkheron.specs.Refusals as R
+use Rattle.sinkheron.specs.declared.refusal.Refusal.{Refusal}
 
 -- the number of pairs; at the C face in bits 16 to 23
-abbrev pub answer_of : Listing → Answer ℕ
-answer_of (Listing.Refused n at) = refusal n at
-answer_of (Listing.Listed k) = success k
+abbrev pub answer_of : Result ℕ Refusal → Answer ℕ
+answer_of r = R.answer_of (λ k. k) r
 
 abbrev pub bits : ℕ → ℕ
 bits k = k * 2 ^ 16

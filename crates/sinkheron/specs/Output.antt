@@ -1,11 +1,11 @@
 -- What is answered where a file or a line is written: a refusal, or its length, which the C face has in bits 32 to 47.
-use Rattle.std.specs.Prelude.{ℕ, ◌*◌, ◌^◌, ◌≤◌}
+use Rattle.std.specs.Prelude.{ℕ, ◌*◌, ◌^◌, ◌≤◌, Result}
 use Rattle.sinkheron.specs.Answer.{Answer, refusal, success}
-use Rattle.sinkheron.specs.declared.Output.{Output}
+use Rattle.sinkheron.specs.Refusals as R
+use Rattle.sinkheron.specs.declared.refusal.Refusal.{Refusal}
 
-abbrev pub answer_of : Output → Answer ℕ
-answer_of (Output.Refused n at) = refusal n at
-answer_of (Output.Written k) = success k
+abbrev pub answer_of : Result ℕ Refusal → Answer ℕ
+answer_of r = R.answer_of (λ k. k) r
 
 abbrev pub bits : ℕ → ℕ
 bits k = k * 2 ^ 32

@@ -1,4 +1,4 @@
--- The promise of read_text (document 02, C-11).
+-- The promise of read_text.
 use Rattle.std.specs.Prelude.{ℕ, List}
 use Rattle.files.specs.Encoding.{policy_file}
 use Rattle.sinkheron.specs.Answer.{Promise}

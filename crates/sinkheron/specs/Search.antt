@@ -1,14 +1,16 @@
 -- The promise of search.
-use Rattle.std.specs.Prelude.{ℕ, ◌+◌, ◌*◌, ◌^◌, List, ltb, length}
+use Rattle.std.specs.Prelude.{ℕ, ◌+◌, ◌*◌, ◌^◌, List, ltb, length, Result}
 use Rattle.ptacl.specs.Request.{Pair}
 use Rattle.ptacl.specs.Term.{Policy, atoms}
 use Rattle.ptacl.specs.Pairs.{IsPairs}
 use Rattle.ptacl.specs.Exposure.{Resistant, Exposure, First}
 use Rattle.files.specs.Memory.{over}
 use Rattle.search.specs.Found.{exposure_files}
-use Rattle.sinkheron.specs.Answer.{Answer, refusal, success, Promise}
+use Rattle.sinkheron.specs.Answer.{Answer, success, Promise}
 use Rattle.sinkheron.specs.Ways.{OfPolicy, The, RefusedIf}
-use Rattle.sinkheron.specs.declared.Searched.{Searched}
+use Rattle.sinkheron.specs.Refusals as R
+use Rattle.sinkheron.specs.declared.refusal.Refusal.{Refusal}
+use Rattle.sinkheron.specs.declared.Verdict.{Verdict}
 
 -- verdict (0 resistant, 1 exposed), the number of pairs, m, i, bytes written
 pub record Values : Type 0 where
@@ -18,16 +20,18 @@ pub record Values : Type 0 where
   pub hides : ℕ
   pub bytes : ℕ
 
+abbrev pub values_of : Verdict → Values
+values_of (Verdict.Resistant k) = record { verdict = 0; pairs = k; subset = 0; hides = 0; bytes = 0 }
+values_of (Verdict.Exposed k m i b) = record { verdict = 1; pairs = k; subset = m; hides = i; bytes = b }
+
 abbrev pub resistant : ℕ → Answer Values
-resistant k = success (record { verdict = 0; pairs = k; subset = 0; hides = 0; bytes = 0 })
+resistant k = success (values_of (Verdict.Resistant k))
 
 abbrev pub exposed : ℕ → ℕ → ℕ → ℕ → Answer Values
-exposed k m i b = success (record { verdict = 1; pairs = k; subset = m; hides = i; bytes = b })
+exposed k m i b = success (values_of (Verdict.Exposed k m i b))
 
-abbrev pub answer_of : Searched → Answer Values
-answer_of (Searched.Refused n at) = refusal n at
-answer_of (Searched.Resistant k) = resistant k
-answer_of (Searched.Exposed k m i b) = exposed k m i b
+abbrev pub answer_of : Result Verdict Refusal → Answer Values
+answer_of r = R.answer_of values_of r
 
 -- the verdict in bit 8, the number of pairs in bits 16 to 23, bytes written in bits 24 to 31, m in bits 32 to 47, i in bits 48 to 63
 abbrev pub bits : Values → ℕ

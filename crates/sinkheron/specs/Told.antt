@@ -1,4 +1,4 @@
--- Document 02, C-12: what an operation that reads a policy file tells of it with a refusal of 15 or 5.
+-- What an operation that reads a policy file tells of it with a refusal of 15 or 5.
 use Rattle.std.specs.Prelude.{ℕ, List}
 use Rattle.files.specs.Due.{Slip, Rubbish}
 use Rattle.sinkheron.specs.Answer.{refusal, Promise}

@@ -1,4 +1,4 @@
--- The ways a call can end. A promise is a nest of them, in document 01's order of refusals ("Refusal numbers"): the policy file or text
+-- The ways a call can end. A promise is a nest of them, in the order of refusals: the policy file or text
 -- first, then the request file, then 12, 13, 14. `before` is what the lent memory held; a refusal leaves it so.
 use Rattle.std.specs.Prelude.{ℕ, ◌≡◌, Bool, true, false, List, ltb, length}
 use Rattle.ptacl.specs.Request.{Request}

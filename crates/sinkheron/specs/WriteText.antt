@@ -1,4 +1,4 @@
--- The promise of write_text (document 02, C-11).
+-- The promise of write_text.
 use Rattle.std.specs.Prelude.{ℕ, List}
 use Rattle.text.specs.Line.{line}
 use Rattle.sinkheron.specs.Answer.{Promise}

@@ -1,4 +1,6 @@
-// The C face: byte blocks and lengths in, one packed word out.
+//! The C face: byte blocks and lengths in, one packed word out. The word's bits and the blocks beside
+//! each other are the C interface, so they stay as they are, shifts and `as` with them.
+
 ghost use Rattle.std.specs.Prelude.{◌≡◌, ◌+◌, ◌*◌, ◌^◌, ◌<◌, ◌≤◌};
 ghost use Rattle.sinkheron.specs.Decide as D;
 ghost use Rattle.sinkheron.specs.ListPairs as L;
@@ -9,51 +11,58 @@ ghost use Rattle.sinkheron.specs.WriteText as W;
 ghost use Rattle.sinkheron.specs.Certify as C;
 ghost use Rattle.sinkheron.specs.Search as S;
 ghost use Rattle.sinkheron.specs.Answer.{place, word, Says};
+ghost use Rattle.sinkheron.specs.Refusals.{refusal_number, refusal_place};
 
-use sinkheron::{Certified, Decision, Listing, Output, Searched};
+use ptacl::DecisionSet;
+use sinkheron::{Refusal, Verdict};
 
-// A refusal's number and place.
-fn refusal(number: u8, place: usize) -> u64
-    requires { place ≤ 65538 }
-    ensures { result ≡ number + place * 2 ^ 8 }
+/// A refusal's number, and its place from bit 8 on.
+fn refused(refusal: Refusal) -> u64
+    requires { refusal_place refusal ≤ 65538 }
+    ensures { result ≡ refusal_number refusal + refusal_place refusal * 2 ^ 8 }
 {
-    number as u64 + place as u64 * 256
+    u64::from(refusal.number()) + ((refusal.place() as u64) << 8)
 }
 
-// A set, by its code.
-fn decision(answer: Decision) -> u64
+/// A set, by its code.
+fn decision(answer: Result<DecisionSet, Refusal>) -> u64
     requires { place (D.answer_of answer) ≤ 65538 }
     ensures { result ≡ word D.bits (D.answer_of answer) }
 {
     match answer {
-        Decision::Refused { number, place } => refusal(number, place),
-        Decision::Decided(set) => set.code as u64 * 256,
+        Ok(set) => u64::from(set.code) << 8,
+        Err(refusal) => refused(refusal),
     }
 }
 
-// What was written, by its length.
-fn output(written: Output) -> u64
+/// What was written, by its length.
+fn output(written: Result<usize, Refusal>) -> u64
     requires { O.Small (O.answer_of written) }
     ensures { result ≡ word O.bits (O.answer_of written) }
 {
     match written {
-        Output::Refused { number, place } => refusal(number, place),
-        Output::Written { bytes } => bytes as u64 * 4294967296,
+        Ok(bytes) => (bytes as u64) << 32,
+        Err(refusal) => refused(refusal),
     }
 }
 
-// An exposure's pairs, bytes, m and i, below the verdict's bit.
+/// How many pairs there are, from bit 16 on.
+fn counted(pairs: usize) -> u64
+    requires { pairs ≤ 254 }
+    ensures { result ≡ pairs * 2 ^ 16 }
+{
+    (pairs as u64) << 16
+}
+
+/// An exposure's pairs, bytes, m and i, below the verdict's bit.
 fn exposure(pairs: usize, bytes: usize, m: usize, i: usize) -> u64
     requires { (pairs ≤ 16) × (bytes ≤ 130) × (m < 65536) × (i < 16) }
     ensures { result ≡ 1 * 2 ^ 8 + pairs * 2 ^ 16 + bytes * 2 ^ 24 + m * 2 ^ 32 + i * 2 ^ 48 }
 {
-    256 + pairs as u64 * 65536
-        + bytes as u64 * 16777216
-        + m as u64 * 4294967296
-        + i as u64 * 281474976710656
+    (1 << 8) + counted(pairs) + ((bytes as u64) << 24) + ((m as u64) << 32) + ((i as u64) << 48)
 }
 
-#[tactic(auto, using(files::proofs::Framing::lent_bytes, sinkheron::proofs::Ranges::decide_ranged, sinkheron::proofs::Ranges::place_small))]
+#[tactic(auto, using(sinkheron::proofs::Ranges::decision_laws))]
 #[unsafe(no_mangle)]
 pub extern "C" fn sinkheron_decide(policy: &[u8], request: &[u8]) -> u64
     ensures { Says D.answer_of D.bits (D.Decides policy.now request.now) result tt }
@@ -61,7 +70,7 @@ pub extern "C" fn sinkheron_decide(policy: &[u8], request: &[u8]) -> u64
     decision(sinkheron::decide(policy, request))
 }
 
-#[tactic(auto, using(files::proofs::Framing::lent_bytes, sinkheron::proofs::Ranges::decide_ranged, sinkheron::proofs::Ranges::place_small))]
+#[tactic(auto, using(sinkheron::proofs::Ranges::decision_laws))]
 #[unsafe(no_mangle)]
 pub extern "C" fn sinkheron_decide_flat(policy: &[u8], request: &[u8]) -> u64
     ensures { Says D.answer_of D.bits (D.Decides policy.now request.now) result tt }
@@ -74,8 +83,8 @@ pub extern "C" fn sinkheron_list_pairs(policy: &[u8], pairs: &mut [u32]) -> u64
     ensures { Says L.answer_of L.bits (L.Lists policy.now pairs.old) result pairs.new }
 {
     match sinkheron::list_pairs(policy, pairs) {
-        Listing::Refused { number, place } => refusal(number, place),
-        Listing::Listed { pairs: count } => count as u64 * 65536,
+        Ok(count) => counted(count),
+        Err(refusal) => refused(refusal),
     }
 }
 
@@ -105,8 +114,9 @@ pub extern "C" fn sinkheron_certify(policy: &[u8]) -> u64
     ensures { Says C.answer_of C.bits (C.Certifies policy.now) result tt }
 {
     match sinkheron::certify(policy) {
-        Certified::Refused { number, place } => refusal(number, place),
-        Certified::By { rule } => rule as u64 * 4096,
+        Ok(None) => 0,
+        Ok(Some(rule)) => u64::from(rule.number()) << 12,
+        Err(refusal) => refused(refusal),
     }
 }
 
@@ -115,8 +125,8 @@ pub extern "C" fn sinkheron_search(policy: &[u8], space: &mut [u8]) -> u64
     ensures { Says S.answer_of S.bits (S.Searches policy.now space.old) result space.new }
 {
     match sinkheron::search(policy, space) {
-        Searched::Refused { number, place } => refusal(number, place),
-        Searched::Resistant { pairs } => pairs as u64 * 65536,
-        Searched::Exposed { pairs, m, i, bytes } => exposure(pairs, bytes, m, i),
+        Ok(Verdict::Resistant { pairs }) => counted(pairs),
+        Ok(Verdict::Exposed { pairs, m, i, bytes }) => exposure(pairs, bytes, m, i),
+        Err(refusal) => refused(refusal),
     }
 }

@@ -1,4 +1,5 @@
-// Sinkheron for C: a static library of the eight operations, each proved to pack into one word what crate sinkheron answers.
+//! Sinkheron for C: a static library of the eight operations, each proved to pack into one word what
+//! crate sinkheron answers.
 #![tactic(auto)]
 
-pub mod face;
+mod face;

@@ -3,5 +3,5 @@ use Rattle.files.proofs.Framing.{lent_bytes}
 use Rattle.sinkheron.proofs.Ranges.{certify_ranged}
 use Rattle.sinkheron_c.proofs.face.sinkheron_certify.Goals as goal
 
-pub refusal-requires : goal.refusal-requires
-refusal-requires c = (certify_ranged (lent_bytes c.type_inv.policy) _ _ (rw c.in-Refused.is at c.certify.ensures)).2
+pub refused-requires : goal.refused-requires
+refused-requires c = (certify_ranged (lent_bytes c.type_inv.policy) _ _ c.in-Err.ensures).2

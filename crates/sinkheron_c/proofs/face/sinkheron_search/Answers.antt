@@ -4,13 +4,14 @@ use Rattle.files.proofs.Framing.{lent_bytes}
 use Rattle.sinkheron.proofs.Ranges.{search_ranged}
 use Rattle.sinkheron_c.proofs.face.sinkheron_search.Goals as goal
 
-pub refusal-requires : goal.refusal-requires
-refusal-requires c = (search_ranged (lent_bytes c.type_inv.policy) _ _ (rw c.in-Refused.is at c.search.ensures)).2
+pub refused-requires : goal.refused-requires
+refused-requires c = (search_ranged (lent_bytes c.type_inv.policy) _ _ c.in-Err.ensures).2
 
-pub overflow_mul-result : goal.overflow_mul-result
-overflow_mul-result c = omega (arith, (search_ranged (lent_bytes c.type_inv.policy) _ _ (rw c.in-Resistant.is at c.search.ensures)).pairs)
+pub counted-requires : goal.counted-requires
+counted-requires c =
+    omega (arith, (search_ranged (lent_bytes c.type_inv.policy) _ _ (rw c.in-Ok-Resistant.field-0-is at c.in-Ok-Resistant.ensures)).pairs)
 
 pub exposure-requires : goal.exposure-requires
 exposure-requires c =
-    let v = search_ranged (lent_bytes c.type_inv.policy) _ _ (rw c.in-Exposed.is at c.search.ensures) in
+    let v = search_ranged (lent_bytes c.type_inv.policy) _ _ (rw c.in-Ok-Exposed.field-0-is at c.in-Ok-Exposed.ensures) in
     (v.pairs, v.bytes, v.subset, v.hides)
