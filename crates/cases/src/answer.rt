@@ -1,78 +1,69 @@
-// An answer in document 01's numbers, whoever gives it. What an operation does not answer is 0. Whether it is a refusal is kept
-// beside the number, so that a refusal with number 0 is no answer.
+//! An answer in the operations' numbers, whoever gives it.
 
-#[derive(Clone, Copy)]
-pub struct Answer {
-    pub refusal: bool,
+use std::alloc::{AllocError, AllocFailed};
+
+/// A refusal's number and its place in the file or text.
+// A number, as the lines of the fixed cases give it, and no enum: the library's own is what is put
+// to the test, and another would only be turned into numbers and back.
+#[derive(Clone, Copy, PartialEq, Eq)]
+pub struct Refused {
     pub number: usize,
     pub place: usize,
-    pub set: usize,
-    pub pairs: usize,
-    pub rule: usize,
-    pub verdict: usize,
-    pub m: usize,
-    pub i: usize,
-    pub bytes: usize,
 }
 
-const BLANK: Answer = Answer {
-    refusal: false,
-    number: 0,
-    place: 0,
-    set: 0,
-    pairs: 0,
-    rule: 0,
-    verdict: 0,
-    m: 0,
-    i: 0,
-    bytes: 0,
-};
-
-pub fn refused(number: usize, place: usize) -> Answer {
-    let mut a = BLANK;
-    a.refusal = true;
-    a.number = number;
-    a.place = place;
-    a
+/// What an operation answers where it is not refused.
+#[derive(Clone, Copy, PartialEq, Eq)]
+pub enum Reply {
+    /// The code of a set: 1 for allow, 2 for deny, 4 for undefined, added up.
+    Set(usize),
+    /// A number of pairs; from a search also that the policy is resistant.
+    Pairs(usize),
+    /// How many bytes were written.
+    Written(usize),
+    /// The number of a structural rule, or 0.
+    Rule(usize),
+    /// The first exposure: of how many pairs, the subset, the pair that it hides, and how many
+    /// bytes were written.
+    Exposed {
+        pairs: usize,
+        m: usize,
+        i: usize,
+        bytes: usize,
+    },
 }
 
-pub fn decided(set: usize) -> Answer {
-    let mut a = BLANK;
-    a.set = set;
-    a
+pub type Answer = Result<Reply, Refused>;
+
+/// Why the evaluator gives no reply.
+// An error of its own beside `Result`, with `From` for `?`.
+#[derive(Clone, Copy)]
+pub enum Failure {
+    Refused(Refused),
+    /// The program has no memory left, which is no answer.
+    Memory,
 }
 
-pub fn listed(pairs: usize) -> Answer {
-    let mut a = BLANK;
-    a.pairs = pairs;
-    a
+impl From<Refused> for Failure {
+    fn from(refused: Refused) -> Failure {
+        Failure::Refused(refused)
+    }
 }
 
-pub fn written(bytes: usize) -> Answer {
-    let mut a = BLANK;
-    a.bytes = bytes;
-    a
+impl From<AllocError> for Failure {
+    fn from(_error: AllocError) -> Failure {
+        Failure::Memory
+    }
 }
 
-pub fn certified(rule: usize) -> Answer {
-    let mut a = BLANK;
-    a.rule = rule;
-    a
+impl<T: Drop> From<AllocFailed<T>> for Failure {
+    fn from(_error: AllocFailed<T>) -> Failure {
+        Failure::Memory
+    }
 }
 
-pub fn exposed(pairs: usize, m: usize, i: usize, bytes: usize) -> Answer {
-    let mut a = BLANK;
-    a.pairs = pairs;
-    a.verdict = 1;
-    a.m = m;
-    a.i = i;
-    a.bytes = bytes;
-    a
-}
-
-pub fn same(a: Answer, b: Answer) -> bool {
-    let refusals = a.refusal == b.refusal && a.number == b.number && a.place == b.place;
-    let numbers = a.set == b.set && a.pairs == b.pairs && a.rule == b.rule;
-    let exposures = a.verdict == b.verdict && a.m == b.m && a.i == b.i && a.bytes == b.bytes;
-    refusals && numbers && exposures
+impl Failure {
+    /// By the number, for the reason at `Refused`.
+    pub fn refused(number: usize, place: usize) -> Failure {
+        Failure::Refused(Refused { number, place })
+    }
 }

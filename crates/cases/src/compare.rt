@@ -1,26 +1,14 @@
-// One case: the library and the independent evaluator on the same input, with the same memory lent to both.
-use crate::answer::Answer;
-use crate::arrays::{Bytes, same_bytes, same_numbers};
-use crate::file::{File, front};
-use crate::{answer, library, model};
+//! One case: the library and the independent evaluator on the same input, with the same memory lent
+//! to both.
 
-pub const DECIDE: usize = 1;
+use crate::answer::{Answer, Failure, Reply};
+use crate::file::File;
+use crate::library::{Library, NOT_LENT};
+use crate::model::Model;
+use crate::operation::{Conversion, Operation};
+use std::alloc::{AllocError, Global};
 
-pub const LIST_PAIRS: usize = 2;
-
-pub const NORMAL_FORM: usize = 3;
-
-pub const CERTIFY: usize = 4;
-
-pub const SEARCH: usize = 5;
-
-pub const DECIDE_FLAT: usize = 6;
-
-pub const READ_TEXT: usize = 7;
-
-pub const WRITE_TEXT: usize = 8;
-
-// How much memory is lent to an operation, and the byte of which it is full.
+/// How much memory is lent to an operation, and the byte of which it is full.
 #[derive(Clone, Copy)]
 pub struct Rooms {
     pub list: usize,
@@ -29,93 +17,204 @@ pub struct Rooms {
     pub fill: u8,
 }
 
-#[derive(Clone, Copy)]
+impl Rooms {
+    /// So many bytes, and as many numbers up to 256.
+    pub fn of(memory: usize) -> Rooms {
+        Rooms {
+            list: memory.min(256),
+            normal: memory,
+            search: memory,
+            fill: 165,
+        }
+    }
+}
+
+// It owns files: nothing copies or compares it.
+#[derive(Drop)]
 pub struct Case {
+    pub alloc: Global,
     pub policy: File,
     pub request: File,
     pub text: File,
     pub rooms: Rooms,
 }
 
-// What an operation came to: both answers, whether all agrees, and the library's memory if it is bytes.
-#[derive(Drop)]
+/// Memory full of one value, of whose front so much is lent.
+// An array, since it is memory that the library is lent: what lies past the room is compared too.
+#[derive(Clone, Copy)]
+struct Memory<T: Copy, const N: usize> {
+    items: [T; N],
+    fill: T,
+    room: usize,
+}
+
+impl<T: Copy + PartialEq, const N: usize> Memory<T, N> {
+    fn new(fill: T, room: usize) -> Memory<T, N> {
+        Memory {
+            items: [fill; N],
+            fill,
+            room,
+        }
+    }
+
+    /// What an operation answers that is lent the room.
+    fn lend<F: FnOnce(&mut [T]) -> Answer>(&mut self, operation: F) -> Answer
+        requires { F.IsAlwaysCallable operation }
+    {
+        match self.items.get_mut(..self.room) {
+            Some(lent) => operation(lent),
+            None => Err(NOT_LENT),
+        }
+    }
+
+    /// Whether the memory begins with what was written, and is as it was lent past that.
+    fn has_only(&self, written: &[T]) -> bool {
+        self.items
+            .strip_prefix(written)
+            .is_some_and(|rest| rest.iter().all(|item| *item == self.fill))
+    }
+}
+
+/// What an operation came to: both answers, and whether all agrees.
+#[derive(Clone, Copy)]
 pub struct Both {
     pub library: Answer,
     pub model: Answer,
+    /// No flag beside a value: it says of the memory what no answer does.
     pub agree: bool,
-    pub memory: Bytes,
 }
 
-fn compared(library: Answer, model: Answer, memory: Bytes, same_memory: bool) -> Both {
-    Both {
-        library,
-        model,
-        agree: same_memory && answer::same(library, model),
-        memory,
+impl Both {
+    /// Answers without memory.
+    fn of_answers(library: Answer, model: Result<Reply, Failure>) -> Result<Both, AllocError> {
+        let model = match model {
+            Ok(reply) => Ok(reply),
+            Err(Failure::Refused(refused)) => Err(refused),
+            Err(Failure::Memory) => return Err(AllocError),
+        };
+        Ok(Both {
+            library,
+            model,
+            agree: library == model,
+        })
+    }
+
+    /// Answers of an operation that writes: the library into this memory. A refusal writes nothing.
+    fn of_writing<T: Copy + PartialEq, const N: usize, F: FnOnce(&mut [T]) -> Answer>(
+        mut memory: Memory<T, N>,
+        operation: F,
+        model: Result<(Reply, Vec<T>), Failure>,
+    ) -> Result<Both, AllocError>
+        requires { F.IsAlwaysCallable operation }
+    {
+        let library = memory.lend(operation);
+        let is_right = match &model {
+            Ok((_, written)) => memory.has_only(written.as_slice()),
+            Err(_) => memory.has_only(&[]),
+        };
+        let both = Both::of_answers(library, model.map(|(reply, _)| reply))?;
+        Ok(Both {
+            agree: both.agree && is_right,
+            ..both
+        })
     }
 }
 
-fn list_pairs(policy: &[u8], room: usize, fill: u8) -> Both {
-    let mut theirs = [fill as u32; 256];
-    let mut ours = [fill as u32; 256];
-    let library = library::list_pairs(policy, &mut theirs, room);
-    let model = model::list_pairs(policy, &mut ours, room);
-    compared(library, model, [0u8; 2048], same_numbers(&theirs, &ours))
-}
-
-fn normal_form(policy: &[u8], request: &[u8], room: usize, fill: u8) -> Both {
-    let mut theirs = [fill; 2048];
-    let mut ours = [fill; 2048];
-    let library = library::normal_form(policy, request, &mut theirs, room);
-    let model = model::normal_form(policy, request, &mut ours, room);
-    let is_same = same_bytes(&theirs, &ours);
-    compared(library, model, theirs, is_same)
-}
-
-fn search(policy: &[u8], room: usize, fill: u8) -> Both {
-    let mut theirs = [fill; 2048];
-    let mut ours = [fill; 2048];
-    let library = library::search(policy, &mut theirs, room);
-    let model = model::search(policy, &mut ours, room);
-    let is_same = same_bytes(&theirs, &ours);
-    compared(library, model, theirs, is_same)
-}
-
-fn run_on(operation: usize, policy: &[u8], request: &[u8], rooms: Rooms) -> Both {
-    match operation {
-        DECIDE => compared(
-            library::decide(policy, request),
-            model::decide(policy, request),
-            [0u8; 2048],
-            true,
-        ),
-        LIST_PAIRS => list_pairs(policy, rooms.list, rooms.fill),
-        NORMAL_FORM => normal_form(policy, request, rooms.normal, rooms.fill),
-        CERTIFY => compared(
-            library::certify(policy),
-            model::certify(policy),
-            [0u8; 2048],
-            true,
-        ),
-        DECIDE_FLAT => compared(
-            library::decide_flat(policy, request),
-            model::decide(policy, request),
-            [0u8; 2048],
-            true,
-        ),
-        _ => search(policy, rooms.search, rooms.fill),
+impl Case {
+    pub fn new(alloc: Global) -> Case {
+        Case {
+            alloc,
+            policy: File::new(alloc),
+            request: File::new(alloc),
+            text: File::new(alloc),
+            rooms: Rooms::of(0),
+        }
     }
-}
 
-pub fn run(operation: usize, case: Case) -> Both {
-    let p = case.policy;
-    let q = case.request;
-    let policy = p.bytes;
-    let request = q.bytes;
-    run_on(
-        operation,
-        front(&policy, p.len),
-        front(&request, q.len),
-        case.rooms,
-    )
+    // The two below differ in what they build: each fills its own struct, and shares nothing else.
+    fn library(&self) -> Library<'_> {
+        Library {
+            policy: self.policy.bytes(),
+            request: self.request.bytes(),
+            text: self.text.bytes(),
+        }
+    }
+
+    fn model(&self) -> Model<'_> {
+        Model {
+            alloc: self.alloc,
+            policy: self.policy.bytes(),
+            request: self.request.bytes(),
+        }
+    }
+
+    /// The space that is lent to an operation, by its room.
+    fn space(&self, room: usize) -> Memory<u8, { File::LONGEST }> {
+        Memory::new(self.rooms.fill, room)
+    }
+
+    /// The operation on this case's policy, request and memory.
+    // One total match on an enum: a table of closures would need one type for operations that take
+    // and write different things.
+    pub fn run(&self, operation: Operation) -> Result<Both, AllocError> {
+        let (library, model) = (self.library(), self.model());
+        let Rooms {
+            list,
+            normal,
+            search,
+            fill,
+        } = self.rooms;
+        match operation {
+            Operation::Decide => Both::of_answers(library.decide(), model.decide()),
+            Operation::DecideFlat => Both::of_answers(library.decide_flat(), model.decide()),
+            Operation::Certify => Both::of_answers(library.certify(), model.certify()),
+            Operation::ListPairs => Both::of_writing(
+                Memory::<u32, 256>::new(u32::from(fill), list),
+                |space| library.list_pairs(space),
+                model.list_pairs(list),
+            ),
+            Operation::NormalForm => Both::of_writing(
+                self.space(normal),
+                |space| library.normal_form(space),
+                model.normal_form(normal),
+            ),
+            Operation::Search => Both::of_writing(
+                self.space(search),
+                |space| library.search(space),
+                model.search(search),
+            ),
+        }
+    }
+
+    /// Whether the space lent to a search begins with these bytes afterwards.
+    pub fn search_begins(&self, front: &[u8]) -> bool {
+        let library = self.library();
+        let mut memory = self.space(self.rooms.search);
+        let _ = memory.lend(|space| library.search(space));
+        memory.items.starts_with(front)
+    }
+
+    /// Whether a conversion between the two forms of this case's policy gives this answer, and with
+    /// it the whole other form.
+    pub fn converts(&self, conversion: Conversion, wanted: Answer) -> bool {
+        let library = self.library();
+        let mut memory = self.space(self.rooms.normal);
+        let (came, output) = match conversion {
+            Conversion::ReadText => {
+                let came = memory.lend(|space| library.read_text(space));
+                (came, &self.policy)
+            }
+            Conversion::WriteText => {
+                let came = memory.lend(|space| library.write_text(space));
+                (came, &self.text)
+            }
+        };
+        came == wanted
+            && match came {
+                Ok(Reply::Written(bytes)) => {
+                    output.is_whole(bytes) && memory.has_only(output.bytes())
+                }
+                _ => memory.has_only(&[]),
+            }
+    }
 }

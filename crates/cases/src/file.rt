@@ -1,51 +1,83 @@
-// Files under construction, of at most 2,048 bytes.
-use crate::arrays::{Bytes, set_byte};
+//! Files and texts under construction.
 
-#[derive(Clone, Copy)]
+use crate::pair::Pair;
+use std::alloc::{AllocError, Global};
+
+/// A file that is built byte by byte. What is past its 2,048th byte is lost.
+// It owns a Vec: nothing copies or compares it.
+#[derive(Drop)]
 pub struct File {
-    pub bytes: Bytes,
-    pub len: usize,
+    bytes: Vec<u8>,
+    /// Whether a byte was ever lost, which a later `cut` does not undo, so no length tells it.
+    is_cut: bool,
 }
 
-// The first n bytes.
-pub fn front(bytes: &[u8], n: usize) -> &[u8] {
-    if n <= bytes.len() { &bytes[..n] } else { bytes }
-}
+impl File {
+    /// The most bytes that a file keeps: a length, no kind of anything.
+    pub const LONGEST: usize = 2048;
 
-pub fn zeros(len: usize) -> File {
-    File {
-        bytes: [0u8; 2048],
-        len,
+    pub fn new(alloc: Global) -> File {
+        File {
+            bytes: Vec::new(alloc),
+            is_cut: false,
+        }
     }
-}
 
-pub fn altered(f: File, i: usize, x: usize) -> File {
-    let mut bytes = f.bytes;
-    set_byte(&mut bytes, i, x);
-    File { bytes, len: f.len }
-}
-
-pub fn of_length(f: File, len: usize) -> File {
-    let bytes = f.bytes;
-    File { bytes, len }
-}
-
-pub fn add_byte(f: File, x: usize) -> File {
-    let len = f.len;
-    if 2048 <= len {
-        return f;
+    /// Three bytes for a version and a length, which `state` fills in.
+    pub fn with_frame(alloc: Global) -> Result<File, AllocError> {
+        let mut file = File::new(alloc);
+        file.extend(&[0, 0, 0])?;
+        Ok(file)
     }
-    of_length(altered(f, len, x), len + 1)
-}
 
-// A name and a value.
-pub fn add_pair(f: File, pair: usize) -> File {
-    let high = add_byte(add_byte(f, pair >> 24), pair >> 16);
-    add_byte(add_byte(high, pair >> 8), pair)
-}
+    pub fn bytes(&self) -> &[u8] {
+        self.bytes.as_slice()
+    }
 
-// The version byte, and the length that the file has.
-pub fn stated(f: File) -> File {
-    let body = if f.len < 3 { 0 } else { f.len - 3 };
-    altered(altered(altered(f, 0, 1), 1, body >> 8), 2, body)
+    /// Whether the file has so many bytes and none was lost.
+    pub fn is_whole(&self, bytes: usize) -> bool {
+        !self.is_cut && self.bytes.len() == bytes
+    }
+
+    pub fn push(&mut self, byte: u8) -> Result<(), AllocError> {
+        if self.bytes.len() < File::LONGEST {
+            self.bytes.push(byte)?;
+        } else {
+            self.is_cut = true;
+        }
+        Ok(())
+    }
+
+    pub fn extend(&mut self, bytes: &[u8]) -> Result<(), AllocError> {
+        for byte in bytes {
+            self.push(*byte)?;
+        }
+        Ok(())
+    }
+
+    pub fn push_pair(&mut self, pair: Pair) -> Result<(), AllocError> {
+        self.extend(&pair.name.to_be_bytes())?;
+        self.extend(&pair.value.to_be_bytes())
+    }
+
+    /// Replaces a byte. Where there is none, nothing happens.
+    pub fn alter(&mut self, i: usize, byte: u8) {
+        if let Some(old) = self.bytes.get_mut(i) {
+            *old = byte;
+        }
+    }
+
+    /// Leaves what is before this place.
+    pub fn cut(&mut self, place: usize) {
+        self.bytes.truncate(place);
+    }
+
+    /// Writes the version and the length that the file has.
+    pub fn state(&mut self) {
+        let body = self.bytes.len().saturating_sub(3);
+        let [.., high, low] = body.to_be_bytes();
+        self.alter(0, 1);
+        self.alter(1, high);
+        self.alter(2, low);
+    }
 }

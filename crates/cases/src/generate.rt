@@ -1,191 +1,250 @@
-// Cases from a small generator of numbers: policies, requests, damage to both, and memory of several lengths.
-use crate::arrays::{List, at, byte, plus, set};
-use crate::compare::{Case, Rooms};
-use crate::file;
-use crate::file::File;
+//! Cases from a small generator of numbers: policies, requests, damage to both, and memory of
+//! several lengths.
 
-// The shape of a policy: whether it is allowed by default, how deep and how large it grows, its first name, and of how many
-// names and values its pairs are.
+use crate::compare::{Case, Rooms};
+use crate::file::File;
+use crate::pair::Pair;
+use crate::random::Random;
+use crate::term::{Sort, Tag};
+use std::alloc::{AllocError, Global};
+
+/// What a policy's nodes are picked from. The first four are the leaves. In this table and the two
+/// below, what stands there more often is picked more often.
+const POLICY_TAGS: [Tag; 16] = [
+    Tag::Deny,
+    Tag::Allow,
+    Tag::Allow,
+    Tag::Allow,
+    Tag::Targeted,
+    Tag::Targeted,
+    Tag::Targeted,
+    Tag::PolicyOr,
+    Tag::PolicyNot,
+    Tag::PolicyNot,
+    Tag::PolicyNot,
+    Tag::DenyByDefault,
+    Tag::DenyByDefault,
+    Tag::PolicyAnd,
+    Tag::PolicyAnd,
+    Tag::PolicyOr,
+];
+
+/// What a target's nodes are picked from. The first is the leaf.
+const TARGET_TAGS: [Tag; 8] = [
+    Tag::Atom,
+    Tag::Atom,
+    Tag::Atom,
+    Tag::TargetNot,
+    Tag::TargetNot,
+    Tag::Optional,
+    Tag::TargetAnd,
+    Tag::TargetOr,
+];
+
+/// Most names are small; some are 0 or beyond a byte.
+// A table of constants, no buffer.
+const BASES: [u16; 8] = [0, 1, 1, 1, 1, 1, 1, 255];
+
+/// The shape of a policy: whether it is allowed by default, how deep and how large it grows, its
+/// first name, and of how many names and values its pairs are.
+// `by_default` is a fact of its own, no flag beside a value: it picks the nodes near the root.
 #[derive(Clone, Copy)]
 struct Plan {
     by_default: bool,
     deepest: usize,
     most: usize,
-    base: usize,
+    base: u16,
     names: usize,
     values: usize,
 }
 
-#[derive(Drop)]
-struct Growing {
-    waiting: usize,
-    nodes: usize,
-    file: File,
+/// A node that is due, by its sort and how deep it stands; the root is at depth 1.
+#[derive(Clone, Copy)]
+struct Due {
+    sort: Sort,
+    depth: usize,
 }
 
-// A number below n.
-fn roll(seed: &mut usize, n: usize) -> usize {
-    let a = *seed ^ (*seed << 13);
-    let b = a ^ (a >> 7);
-    let c = b ^ (b << 17);
-    *seed = c;
-    if n == 0 { 0 } else { (c >> 20) % n }
-}
-
-// One in ten is large.
-fn planned(seed: &mut usize) -> Plan {
-    let large = roll(seed, 10) / 9;
-    let by_default = roll(seed, 2) == 0;
-    let deepest = plus(roll(seed, 8), 2) | (large << 5);
-    let most = plus(roll(seed, 24), large << 8);
-    let base = byte(b"\x00\x01\x01\x01\x01\x01\x01\xff", roll(seed, 8));
-    Plan {
-        by_default,
-        deepest,
-        most,
-        base,
-        names: plus(roll(seed, 4), 1),
-        values: plus(roll(seed, 3), 1),
+impl Due {
+    /// A part of a node that was due.
+    fn part(self, sort: Sort) -> Due {
+        let depth = self.depth.saturating_add(1);
+        Due { sort, depth }
     }
 }
 
-// The first four are the leaves. Near the root there are none.
-fn policy_tag(seed: &mut usize, depth: usize, is_leaf: bool) -> usize {
-    let x = roll(seed, 16);
-    let i = if is_leaf {
-        x % 4
-    } else if depth < 4 {
-        x | 4
-    } else {
-        x
-    };
-    byte(
-        b"\x20\x21\x21\x21\x22\x22\x22\x26\x23\x23\x23\x24\x24\x25\x25\x26",
-        i,
-    )
+/// What makes cases: where their memory is from, and the numbers.
+#[derive(Clone, Copy)]
+pub struct Generator {
+    alloc: Global,
+    random: Random,
 }
 
-fn target_tag(seed: &mut usize, is_leaf: bool) -> usize {
-    let i = if is_leaf { 0 } else { roll(seed, 8) };
-    byte(b"\x10\x10\x10\x11\x11\x12\x13\x14", i)
-}
-
-// The tag of what is due: depth * 2, plus 1 for a target.
-fn tag(seed: &mut usize, plan: Plan, due: usize, nodes: usize) -> usize {
-    let depth = due / 2;
-    if plan.by_default && depth < 4 {
-        return byte(b"\x00\x23\x24\x23", depth);
+impl Generator {
+    pub fn new(alloc: Global) -> Generator {
+        let random = Random::FIRST;
+        Generator { alloc, random }
     }
-    let is_leaf = plan.deepest <= depth || plan.most <= nodes;
-    if due % 2 == 1 {
-        target_tag(seed, is_leaf)
-    } else {
-        policy_tag(seed, depth, is_leaf)
+
+    /// One plan in ten is large.
+    fn plan(&mut self) -> Plan {
+        let (deeper, more) = if self.random.below(10) == 9 {
+            (32, 256)
+        } else {
+            (0, 0)
+        };
+        let by_default = self.random.below(2) == 0;
+        let deepest = self.random.below(8) + 2 + deeper;
+        let most = self.random.below(24) + more;
+        let base = BASES[self.random.below(8)];
+        Plan {
+            by_default,
+            deepest,
+            most,
+            base,
+            names: self.random.below(4) + 1,
+            values: self.random.below(3) + 1,
+        }
+    }
+
+    /// The tag of a node that is due, where so many are written. Near the root there are no leaves.
+    fn tag(&mut self, plan: Plan, due: Due, written: usize) -> Tag {
+        if plan.by_default && due.depth < 4 {
+            return if due.depth == 2 {
+                Tag::DenyByDefault
+            } else {
+                Tag::PolicyNot
+            };
+        }
+        let is_leaf = plan.deepest <= due.depth || plan.most <= written;
+        if due.sort == Sort::Target {
+            return if is_leaf {
+                Tag::Atom
+            } else {
+                TARGET_TAGS[self.random.below(8)]
+            };
+        }
+        let i = self.random.below(16);
+        if is_leaf {
+            POLICY_TAGS[i % 4]
+        } else if due.depth < 4 {
+            POLICY_TAGS[(i | 4) % 16]
+        } else {
+            POLICY_TAGS[i]
+        }
+    }
+
+    fn pair(&mut self, plan: Plan) -> Pair {
+        let name = plan.base.wrapping_add(self.random.small(plan.names));
+        let value = self.random.small(plan.values);
+        Pair { name, value }
+    }
+
+    /// A policy file of at most 320 nodes: a policy that has more to come by then is cut.
+    fn policy(&mut self, plan: Plan) -> Result<File, AllocError> {
+        let mut file = File::with_frame(self.alloc)?;
+        let mut due = Vec::new(self.alloc);
+        due.push(Due {
+            sort: Sort::Policy,
+            depth: 1,
+        })?;
+        // It counts the nodes up to the limit, and indexes nothing.
+        for written in 0..320 {
+            let Some(node) = due.pop() else {
+                break;
+            };
+            let tag = self.tag(plan, node, written);
+            owe_parts(&mut due, node, tag)?;
+            file.push(u8::from(tag))?;
+            if tag == Tag::Atom {
+                file.push_pair(self.pair(plan))?;
+            }
+        }
+        file.state();
+        Ok(file)
+    }
+
+    /// A request file of pairs in order, one in so many of those of six names from the policy's
+    /// first on.
+    fn request(&mut self, plan: Plan, one_in: usize) -> Result<File, AllocError> {
+        let mut file = File::with_frame(self.alloc)?;
+        // They are names and values themselves, and index nothing.
+        for name in 0..6 {
+            for value in 0..4 {
+                if self.random.below(one_in) == 0 {
+                    let name = plan.base.wrapping_add(name);
+                    file.push_pair(Pair { name, value })?;
+                }
+            }
+        }
+        file.state();
+        Ok(file)
+    }
+
+    /// Damages one file in three.
+    fn damage(&mut self, file: &mut File) -> Result<(), AllocError> {
+        let place = self.random.below(file.bytes().len());
+        let byte = self.random.byte();
+        match self.random.below(24) {
+            0 => file.alter(place, byte),
+            1 => file.alter(place, 16 + byte % 24),
+            2 => file.cut(place),
+            3 => {
+                file.cut(place);
+                file.state();
+            }
+            4 => {
+                file.push(byte)?;
+                file.state();
+            }
+            5 => file.push(byte)?,
+            6 => file.alter(0, byte),
+            7 => file.cut(usize::from(byte % 3)),
+            _ => {}
+        }
+        Ok(())
+    }
+
+    fn rooms(&mut self) -> Rooms {
+        Rooms {
+            list: self.random.below(24),
+            normal: self.random.below(72),
+            search: self.random.below(10) + 128,
+            fill: self.random.byte(),
+        }
+    }
+
+    pub fn case(&mut self) -> Result<Case, AllocError> {
+        let plan = self.plan();
+        let one_in = self.random.below(8) + 1;
+        let mut policy = self.policy(plan)?;
+        let mut request = self.request(plan, one_in)?;
+        self.damage(&mut policy)?;
+        self.damage(&mut request)?;
+        Ok(Case {
+            alloc: self.alloc,
+            policy,
+            request,
+            text: File::new(self.alloc),
+            rooms: self.rooms(),
+        })
     }
 }
 
-// Puts the parts of a node on the stack, the first on top, and answers how high the stack is then.
-fn owe(due: &mut List, top: usize, tag: usize) -> usize {
-    let part = plus(at(due, top), 2);
+/// Adds a node's parts to what is due, the first on top.
+fn owe_parts(due: &mut Vec<Due>, node: Due, tag: Tag) -> Result<(), AllocError> {
+    let part = node.part(node.sort);
     match tag {
-        0x10 | 0x20 | 0x21 => top,
-        0x11 | 0x12 | 0x23 | 0x24 => {
-            set(due, top, part);
-            plus(top, 1)
+        Tag::Atom | Tag::Deny | Tag::Allow => {}
+        Tag::TargetNot | Tag::Optional | Tag::PolicyNot | Tag::DenyByDefault => due.push(part)?,
+        Tag::TargetAnd | Tag::TargetOr | Tag::PolicyAnd | Tag::PolicyOr => {
+            due.push(part)?;
+            due.push(part)?;
         }
-        _ => {
-            set(due, top, part);
-            set(due, plus(top, 1), part | (tag == 0x22) as usize);
-            plus(top, 2)
-        }
-    }
-}
-
-fn written(seed: &mut usize, plan: Plan, f: File, tag: usize) -> File {
-    let file = file::add_byte(f, tag);
-    if tag != 0x10 {
-        return file;
-    }
-    let name = plus(plan.base, roll(seed, plan.names));
-    file::add_pair(file, (name << 16) | roll(seed, plan.values))
-}
-
-// Adds the node that is due next.
-fn grow(seed: &mut usize, plan: Plan, due: &mut List, g: Growing) -> Growing {
-    let waiting = g.waiting;
-    if waiting == 0 {
-        return g;
-    }
-    let top = waiting - 1;
-    let tag = tag(seed, plan, at(due, top), g.nodes);
-    Growing {
-        waiting: owe(due, top, tag),
-        nodes: plus(g.nodes, 1),
-        file: written(seed, plan, g.file, tag),
-    }
-}
-
-// At most 320 nodes: a policy that has more to come by then is cut.
-fn policy(seed: &mut usize, plan: Plan) -> File {
-    let mut due = [0usize; 256];
-    set(&mut due, 0, 2);
-    let mut g = Growing {
-        waiting: 1,
-        nodes: 0,
-        file: file::zeros(3),
-    };
-    for _ in 0usize..320 {
-        g = grow(seed, plan, &mut due, g);
-    }
-    file::stated(g.file)
-}
-
-// Pairs in order, of six names from the policy's first on.
-fn request(seed: &mut usize, base: usize, one_in: usize) -> File {
-    let mut file = file::zeros(3);
-    for k in 0..24 {
-        if roll(seed, one_in) == 0 {
-            file = file::add_pair(file, (plus(base, k / 4) << 16) | k % 4);
+        Tag::Targeted => {
+            due.push(part)?;
+            due.push(node.part(Sort::Target))?;
         }
     }
-    file::stated(file)
-}
-
-// Two files in three are left as they are.
-fn damaged(seed: &mut usize, f: File) -> File {
-    let place = roll(seed, f.len);
-    let x = roll(seed, 256);
-    match roll(seed, 24) {
-        0 => file::altered(f, place, x),
-        1 => file::altered(f, place, plus(16, x % 24)),
-        2 => file::of_length(f, place),
-        3 => file::stated(file::of_length(f, place)),
-        4 => file::stated(file::add_byte(f, x)),
-        5 => file::add_byte(f, x),
-        6 => file::altered(f, 0, x),
-        7 => file::of_length(f, x % 3),
-        _ => f,
-    }
-}
-
-fn rooms(seed: &mut usize) -> Rooms {
-    Rooms {
-        list: roll(seed, 24),
-        normal: roll(seed, 72),
-        search: plus(roll(seed, 10), 128),
-        fill: (roll(seed, 256) % 256) as u8,
-    }
-}
-
-pub fn case(seed: &mut usize) -> Case {
-    let plan = planned(seed);
-    let one_in = plus(roll(seed, 8), 1);
-    let whole = policy(seed, plan);
-    let asked = request(seed, plan.base, one_in);
-    Case {
-        policy: damaged(seed, whole),
-        request: damaged(seed, asked),
-        text: file::zeros(0),
-        rooms: rooms(seed),
-    }
+    Ok(())
 }

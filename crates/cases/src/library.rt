@@ -1,76 +1,78 @@
-// The operations by the library, the first `room` numbers or bytes of the memory lent.
-use crate::answer;
-use crate::answer::Answer;
-use crate::arrays::wide;
-use sinkheron::{Certified, Decision, Listing, Output, Searched};
+//! The operations by the library, on the memory that they are lent. All that this program knows of
+//! the library's face is here.
 
-fn decision_of(decision: Decision) -> Answer {
-    match decision {
-        Decision::Refused { number, place } => answer::refused(wide(number), place),
-        Decision::Decided(set) => answer::decided(wide(set.code)),
+use crate::answer::{Answer, Refused, Reply};
+use ptacl::DecisionSet;
+use sinkheron::{Refusal, Verdict};
+
+/// Less memory is there than is to be lent. No operation gives this answer.
+// A number all the same: a line of the fixed cases may ask for it, and passes if it does.
+pub const NOT_LENT: Refused = Refused {
+    number: 99,
+    place: 0,
+};
+
+// A refusal that is built, not an enum of this program's own.
+impl From<Refusal> for Refused {
+    fn from(refusal: Refusal) -> Refused {
+        Refused {
+            number: usize::from(refusal.number()),
+            place: refusal.place(),
+        }
     }
 }
 
-pub fn decide(policy: &[u8], request: &[u8]) -> Answer {
-    decision_of(sinkheron::decide(policy, request))
+/// The files of a case, as the library takes them.
+#[derive(Clone, Copy)]
+pub struct Library<'a> {
+    pub policy: &'a [u8],
+    pub request: &'a [u8],
+    pub text: &'a [u8],
 }
 
-pub fn decide_flat(policy: &[u8], request: &[u8]) -> Answer {
-    decision_of(sinkheron::decide_flat(policy, request))
+fn set_of(decision: Result<DecisionSet, Refusal>) -> Answer {
+    Ok(Reply::Set(usize::from(decision?.code)))
 }
 
-pub fn list_pairs(policy: &[u8], pairs: &mut [u32], room: usize) -> Answer {
-    if pairs.len() < room {
-        return answer::refused(99, 0);
-    }
-    match sinkheron::list_pairs(policy, &mut pairs[..room]) {
-        Listing::Refused { number, place } => answer::refused(wide(number), place),
-        Listing::Listed { pairs: count } => answer::listed(count),
-    }
+fn written(bytes: Result<usize, Refusal>) -> Answer {
+    Ok(Reply::Written(bytes?))
 }
 
-pub fn normal_form(policy: &[u8], request: &[u8], space: &mut [u8], room: usize) -> Answer {
-    if space.len() < room {
-        return answer::refused(99, 0);
+// Each method names one operation and what its number counts: there is no more for them to share.
+impl<'a> Library<'a> {
+    pub fn decide(self) -> Answer {
+        set_of(sinkheron::decide(self.policy, self.request))
     }
-    output_of(sinkheron::normal_form(policy, request, &mut space[..room]))
-}
 
-fn output_of(written: Output) -> Answer {
-    match written {
-        Output::Refused { number, place } => answer::refused(wide(number), place),
-        Output::Written { bytes } => answer::written(bytes),
+    pub fn decide_flat(self) -> Answer {
+        set_of(sinkheron::decide_flat(self.policy, self.request))
     }
-}
 
-pub fn read_text(text: &[u8], space: &mut [u8], room: usize) -> Answer {
-    if space.len() < room {
-        return answer::refused(99, 0);
+    pub fn list_pairs(self, space: &mut [u32]) -> Answer {
+        Ok(Reply::Pairs(sinkheron::list_pairs(self.policy, space)?))
     }
-    output_of(sinkheron::read_text(text, &mut space[..room]))
-}
 
-pub fn write_text(policy: &[u8], space: &mut [u8], room: usize) -> Answer {
-    if space.len() < room {
-        return answer::refused(99, 0);
+    pub fn normal_form(self, space: &mut [u8]) -> Answer {
+        written(sinkheron::normal_form(self.policy, self.request, space))
     }
-    output_of(sinkheron::write_text(policy, &mut space[..room]))
-}
 
-pub fn certify(policy: &[u8]) -> Answer {
-    match sinkheron::certify(policy) {
-        Certified::Refused { number, place } => answer::refused(wide(number), place),
-        Certified::By { rule } => answer::certified(wide(rule)),
+    pub fn read_text(self, space: &mut [u8]) -> Answer {
+        written(sinkheron::read_text(self.text, space))
     }
-}
 
-pub fn search(policy: &[u8], space: &mut [u8], room: usize) -> Answer {
-    if space.len() < room {
-        return answer::refused(99, 0);
+    pub fn write_text(self, space: &mut [u8]) -> Answer {
+        written(sinkheron::write_text(self.policy, space))
     }
-    match sinkheron::search(policy, &mut space[..room]) {
-        Searched::Refused { number, place } => answer::refused(wide(number), place),
-        Searched::Resistant { pairs } => answer::listed(pairs),
-        Searched::Exposed { pairs, m, i, bytes } => answer::exposed(pairs, m, i, bytes),
+
+    pub fn certify(self) -> Answer {
+        let rule = sinkheron::certify(self.policy)?;
+        Ok(Reply::Rule(rule.map_or(0, |rule| usize::from(rule.number()))))
+    }
+
+    pub fn search(self, space: &mut [u8]) -> Answer {
+        Ok(match sinkheron::search(self.policy, space)? {
+            Verdict::Resistant { pairs } => Reply::Pairs(pairs),
+            Verdict::Exposed { pairs, m, i, bytes } => Reply::Exposed { pairs, m, i, bytes },
+        })
     }
 }

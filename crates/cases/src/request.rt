@@ -1,45 +1,41 @@
-// A request as a list of numbers, name * 65536 + value.
-use crate::arrays::{List, at, big, plus, set};
-use crate::term::{Outcome, framed, refused};
+//! Requests: reading them from their files, and writing them.
 
-fn pairs(file: &[u8], count: usize, held: &mut List) {
-    for i in 0..count {
-        set(held, i, big(file, plus(3, i << 2)));
+use crate::answer::Failure;
+use crate::pair::Pair;
+use crate::term::Frame;
+use std::alloc::{AllocError, Global};
+
+/// The pairs of a request file, which ascend.
+pub fn read(alloc: Global, file: &[u8]) -> Result<Vec<Pair>, Failure> {
+    let frame = Frame {
+        short: 21,
+        version: 22,
+        length: 23,
+    };
+    let (chunks, rest) = frame.body_of(file)?.as_chunks::<4>();
+    if !rest.is_empty() {
+        return Err(Failure::refused(24, 3));
     }
-}
-
-// The first pair that is not above the one before it, or the number of pairs.
-fn at_fault(held: &List, count: usize) -> usize {
-    for i in 1..count {
-        if at(held, i) <= at(held, i - 1) {
-            return i;
+    if chunks.len() > 256 {
+        return Err(Failure::refused(25, 1027));
+    }
+    let mut held: Vec<Pair> = Vec::new(alloc);
+    for (i, bytes) in chunks.iter().enumerate() {
+        let pair = Pair::from(*bytes);
+        if held.last().is_some_and(|last| pair <= *last) {
+            return Err(Failure::refused(26, 3 + 4 * i));
         }
+        held.push(pair)?;
     }
-    count
+    Ok(held)
 }
 
-pub fn read(file: &[u8], held: &mut List) -> Outcome {
-    let frame = framed(file, 21, 22, 23);
-    let n = file.len();
-    if frame.number != 0 || n < 3 {
-        return frame;
+/// Adds the request file of these pairs to what is written.
+pub fn write(pairs: &[Pair], written: &mut Vec<u8>) -> Result<(), AllocError> {
+    let [.., high, low] = pairs.len().wrapping_mul(4).to_be_bytes();
+    written.extend_from_slice(&[1, high, low])?;
+    for pair in pairs {
+        written.extend_from_slice(&u32::from(*pair).to_be_bytes())?;
     }
-    let body = n - 3;
-    if body % 4 != 0 {
-        return refused(24, 3);
-    }
-    let count = body / 4;
-    if 256 < count {
-        return refused(25, 1027);
-    }
-    pairs(file, count, held);
-    let i = at_fault(held, count);
-    if i < count {
-        return refused(26, 3 + 4 * i);
-    }
-    Outcome {
-        number: 0,
-        place: 0,
-        count,
-    }
+    Ok(())
 }

@@ -1,100 +1,178 @@
-// The structural rules, by facts of each node from the last to the first.
-use crate::arrays::{Facts, Table, get, holds, note};
-use crate::term::{FIRST, SECOND, TAG};
+//! The structural rules, by facts of each policy in a policy.
 
-// The facts of a node. The four in the middle say which tags stand in it.
-const NEVER_ALLOWS: usize = 0;
+use crate::term::Term;
 
-const NEVER_DENIES: usize = 1;
+/// The structural rules, by their numbers.
+#[derive(Clone, Copy, PartialEq, Eq)]
+pub enum Rule {
+    NeverAllows = 1,
+    NoTarget = 2,
+    NoNotInTargetsAndNoDefault = 3,
+    NoNotAtAll = 4,
+    DefaultOfCertified = 5,
+    AndOfCertified = 6,
+    OrOfCertified = 7,
+}
 
-const TARGETED: usize = 2;
-
-const TARGET_NOT: usize = 3;
-
-const DEFAULT: usize = 4;
-
-const POLICY_NOT: usize = 5;
-
-const CERTIFIED: usize = 6;
-
-fn never_allows(facts: &Facts, tag: usize, a: usize, b: usize) -> bool {
-    match tag {
-        0x20 => true,
-        0x22 => holds(facts, b, NEVER_ALLOWS),
-        0x23 => holds(facts, a, NEVER_DENIES),
-        0x24 => holds(facts, a, NEVER_ALLOWS),
-        0x25 => holds(facts, a, NEVER_ALLOWS) || holds(facts, b, NEVER_ALLOWS),
-        0x26 => holds(facts, a, NEVER_ALLOWS) && holds(facts, b, NEVER_ALLOWS),
-        _ => false,
+/// The structural rules' numbers, which the operation answers.
+impl From<Rule> for usize {
+    fn from(rule: Rule) -> usize {
+        // No plainer form: the other is a match that writes all the numbers again.
+        rule as usize
     }
 }
 
-fn never_denies(facts: &Facts, tag: usize, a: usize, b: usize) -> bool {
-    match tag {
-        0x21 => true,
-        0x22 => holds(facts, b, NEVER_DENIES),
-        0x23 => holds(facts, a, NEVER_ALLOWS),
-        0x25 => holds(facts, a, NEVER_DENIES) && holds(facts, b, NEVER_DENIES),
-        0x26 => holds(facts, a, NEVER_DENIES) || holds(facts, b, NEVER_DENIES),
-        _ => false,
+/// Which decisions a policy never comes to, as the rules find it by its parts.
+// Two facts of their own, neither a flag beside a value.
+#[derive(Clone, Copy)]
+struct Never {
+    allows: bool,
+    denies: bool,
+}
+
+impl Never {
+    fn opposite(self) -> Never {
+        Never {
+            allows: self.denies,
+            denies: self.allows,
+        }
+    }
+
+    fn and(self, other: Never) -> Never {
+        Never {
+            allows: self.allows || other.allows,
+            denies: self.denies && other.denies,
+        }
+    }
+
+    // As `Values::or`: a trait of both types for this one line would be no plainer.
+    fn or(self, other: Never) -> Never {
+        self.opposite().and(other.opposite()).opposite()
     }
 }
 
-// The smallest number that applies at node n, whose own facts are there but for the last.
-fn rule(facts: &Facts, n: usize, tag: usize, a: usize, b: usize) -> usize {
-    let plain = !holds(facts, n, TARGET_NOT);
-    let both = holds(facts, a, CERTIFIED) & holds(facts, b, CERTIFIED);
-    if holds(facts, n, NEVER_ALLOWS) {
-        1
-    } else if !holds(facts, n, TARGETED) {
-        2
-    } else if plain & !holds(facts, n, DEFAULT) {
-        3
-    } else if plain & !holds(facts, n, POLICY_NOT) {
-        4
-    } else if (tag == 0x24) & holds(facts, a, CERTIFIED) {
-        5
-    } else if (tag == 0x25) & both {
-        6
-    } else if (tag == 0x26) & both {
-        7
-    } else {
-        0
+/// What is known of a policy: what it never comes to, what stands in it, and its rule.
+// Each a fact of its own, none a flag beside a value.
+#[derive(Clone, Copy)]
+struct Facts {
+    never: Never,
+    has_target: bool,
+    has_target_not: bool,
+    has_default: bool,
+    has_policy_not: bool,
+    /// The smallest rule that applies.
+    rule: Option<Rule>,
+}
+
+impl Facts {
+    /// A policy without parts.
+    fn of_leaf(is_allow: bool) -> Facts {
+        Facts {
+            never: Never {
+                allows: !is_allow,
+                denies: is_allow,
+            },
+            has_target: false,
+            has_target_not: false,
+            has_default: false,
+            has_policy_not: false,
+            rule: None,
+        }
+        .judged(None)
+    }
+
+    /// The facts with their rule, where `by_parts` is the rule that the parts' certificates give.
+    fn judged(self, by_parts: Option<Rule>) -> Facts {
+        let rule = if self.never.allows {
+            Some(Rule::NeverAllows)
+        } else if !self.has_target {
+            Some(Rule::NoTarget)
+        } else if !self.has_target_not && !self.has_default {
+            Some(Rule::NoNotInTargetsAndNoDefault)
+        } else if !self.has_target_not && !self.has_policy_not {
+            Some(Rule::NoNotAtAll)
+        } else {
+            by_parts
+        };
+        Facts { rule, ..self }
+    }
+
+    fn not(self) -> Facts {
+        Facts {
+            never: self.never.opposite(),
+            has_policy_not: true,
+            ..self
+        }
+        .judged(None)
+    }
+
+    fn by_default(self) -> Facts {
+        Facts {
+            never: Never {
+                denies: false,
+                ..self.never
+            },
+            has_default: true,
+            ..self
+        }
+        .judged(self.rule.map(|_| Rule::DefaultOfCertified))
+    }
+
+    /// A policy of two parts, which `rule` certifies where both are certified.
+    fn with(self, other: Facts, never: Never, rule: Rule) -> Facts {
+        Facts {
+            never,
+            has_target: self.has_target || other.has_target,
+            has_target_not: self.has_target_not || other.has_target_not,
+            has_default: self.has_default || other.has_default,
+            has_policy_not: self.has_policy_not || other.has_policy_not,
+            rule: None,
+        }
+        .judged(self.rule.and(other.rule).map(|_| rule))
+    }
+
+    fn guarded_by(self, target: &Term) -> Facts {
+        Facts {
+            has_target: true,
+            has_target_not: self.has_target_not || target.has_not(),
+            ..self
+        }
+        .judged(None)
     }
 }
 
-// Notes whether a tag stands at the node or in one of its parts.
-fn note_tag(nodes: &Table, facts: &mut Facts, n: usize, tag: usize, fact: usize) {
-    let a = get(nodes, n, FIRST);
-    let b = get(nodes, n, SECOND);
-    let is_there = get(nodes, n, TAG) == tag || holds(facts, a, fact) || holds(facts, b, fact);
-    note(facts, n, fact, is_there);
-}
-
-// Notes all facts of a node, and answers its rule's number.
-fn judge(nodes: &Table, facts: &mut Facts, n: usize) -> usize {
-    let a = get(nodes, n, FIRST);
-    let b = get(nodes, n, SECOND);
-    let tag = get(nodes, n, TAG);
-    let allows = never_allows(facts, tag, a, b);
-    let denies = never_denies(facts, tag, a, b);
-    note(facts, n, NEVER_ALLOWS, allows);
-    note(facts, n, NEVER_DENIES, denies);
-    note_tag(nodes, facts, n, 0x22, TARGETED);
-    note_tag(nodes, facts, n, 0x11, TARGET_NOT);
-    note_tag(nodes, facts, n, 0x24, DEFAULT);
-    note_tag(nodes, facts, n, 0x23, POLICY_NOT);
-    let number = rule(facts, n, tag, a, b);
-    note(facts, n, CERTIFIED, number != 0);
-    number
-}
-
-// The certificate of the root, which is judged last.
-pub fn certificate(nodes: &Table, size: usize) -> usize {
-    let mut facts = [false; 2048];
-    let mut number = 0;
-    for done in 0..size {
-        number = judge(nodes, &mut facts, size - 1 - done);
+impl Term {
+    fn has_not(&self) -> bool {
+        match self {
+            Term::Deny | Term::Allow | Term::Atom(_) => false,
+            Term::Not(_) => true,
+            Term::Default(part) => part.has_not(),
+            Term::And(first, second) | Term::Or(first, second) | Term::Targeted(first, second) => {
+                first.has_not() || second.has_not()
+            }
+        }
     }
-    number
+
+    fn facts(&self) -> Facts {
+        match self {
+            Term::Deny | Term::Atom(_) => Facts::of_leaf(false),
+            Term::Allow => Facts::of_leaf(true),
+            Term::Not(part) => part.facts().not(),
+            Term::Default(part) => part.facts().by_default(),
+            Term::And(first, second) => {
+                let (first, second) = (first.facts(), second.facts());
+                first.with(second, first.never.and(second.never), Rule::AndOfCertified)
+            }
+            Term::Or(first, second) => {
+                let (first, second) = (first.facts(), second.facts());
+                first.with(second, first.never.or(second.never), Rule::OrOfCertified)
+            }
+            Term::Targeted(target, body) => body.facts().guarded_by(target),
+        }
+    }
+
+    /// The smallest structural rule that applies to the policy.
+    pub fn certificate(&self) -> Option<Rule> {
+        self.facts().rule
+    }
 }

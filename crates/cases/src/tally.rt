@@ -1,87 +1,121 @@
-// What was run, what agreed, and what was met.
-use crate::answer::Answer;
-use crate::arrays::plus;
-use crate::compare;
+//! What was run, what agreed, and what was met.
+
+use crate::answer::{Answer, Refused, Reply};
 use crate::compare::Case;
+use crate::operation::{Operation, Trial};
+use std::alloc::{AllocError, Global};
+use std::collections::BTreeSet;
+use std::fmt;
 
-// Counts, by the places below.
-pub type Tally = [usize; 64];
-
-// Two groups of cases, and of each how many were run, how many agreed, the first that did not, counted from 1, and its operation.
-pub const FIXED: usize = 0;
-
-pub const GENERATED: usize = 4;
-
-pub const RUN: usize = 0;
-
-pub const RIGHT: usize = 1;
-
-pub const CASE: usize = 2;
-
-pub const OPERATION: usize = 3;
-
-// Resistant policies, and exposed ones right behind them.
-pub const RESISTANT: usize = 8;
-
-pub const EXPOSED: usize = 9;
-
-// Refusals by number, sets by code, certificates by rule.
-pub const REFUSALS: usize = 10;
-
-pub const SETS: usize = 40;
-
-pub const RULES: usize = 48;
-
-pub fn count_of(tally: &Tally, i: usize) -> usize {
-    if i < 64 { tally[i] } else { 0 }
+/// The first case of a group that did not agree, counted from 1, and on what.
+#[derive(Clone, Copy)]
+pub struct Disagreement {
+    case: usize,
+    trial: Trial,
 }
 
-fn set(tally: &mut Tally, i: usize, x: usize) {
-    if i < 64 {
-        tally[i] = x;
+// Like `Group`'s it is one `write!` of its own words: there is no less to write.
+impl fmt::Display for Disagreement {
+    fn fmt<W: fmt::Write>(&self, f: &mut fmt::Formatter<W>) -> fmt::Result {
+        write!(f, "{} {}", self.case, self.trial)
     }
 }
 
-fn add(tally: &mut Tally, i: usize) {
-    let n = count_of(tally, i);
-    set(tally, i, plus(n, 1));
+/// A group of cases: how many were run, and how many agreed.
+#[derive(Clone, Copy)]
+pub struct Group {
+    run: usize,
+    right: usize,
+    first: Option<Disagreement>,
 }
 
-// Counts a case whose first operation to disagree is this, or 0.
-pub fn record(tally: &mut Tally, group: usize, operation: usize) {
-    add(tally, plus(group, RUN));
-    if operation == 0 {
-        add(tally, plus(group, RIGHT));
-    } else if count_of(tally, plus(group, CASE)) == 0 {
-        let case = count_of(tally, plus(group, RUN));
-        set(tally, plus(group, CASE), case);
-        set(tally, plus(group, OPERATION), operation);
+impl fmt::Display for Group {
+    fn fmt<W: fmt::Write>(&self, f: &mut fmt::Formatter<W>) -> fmt::Result {
+        write!(f, "{} of {}", self.right, self.run)
     }
 }
 
-// Counts what an operation answered.
-fn meet(tally: &mut Tally, operation: usize, a: Answer) {
-    if a.number != 0 {
-        add(tally, plus(REFUSALS, a.number));
-        return;
+impl Group {
+    const EMPTY: Group = Group {
+        run: 0,
+        right: 0,
+        first: None,
+    };
+
+    /// Counts a case of which this was the first trial to disagree.
+    pub fn record(&mut self, disagreed: Option<Trial>) {
+        self.run = self.run.saturating_add(1);
+        let Some(trial) = disagreed else {
+            self.right = self.right.saturating_add(1);
+            return;
+        };
+        let case = self.run;
+        self.first = self.first.or(Some(Disagreement { case, trial }));
     }
-    match operation {
-        compare::DECIDE => add(tally, plus(SETS, a.set)),
-        compare::CERTIFY => add(tally, plus(RULES, a.rule)),
-        compare::SEARCH => add(tally, plus(RESISTANT, a.verdict)),
-        _ => {}
+
+    pub fn first(&self) -> Option<Disagreement> {
+        self.first
     }
 }
 
-// The first operation to disagree, or 0.
-pub fn first_to_disagree(tally: &mut Tally, case: Case) -> usize {
-    let mut first = 0;
-    for operation in 1..7 {
-        let both = compare::run(operation, case);
-        meet(tally, operation, both.model);
-        if !both.agree && first == 0 {
-            first = operation;
+/// The fixed and the generated cases, and what the evaluator answered: refusals by number, sets by
+/// code, certificates by rule, and how many searches found a policy resistant or exposed.
+// It owns sets: nothing copies or compares it.
+#[derive(Drop)]
+pub struct Tally {
+    pub fixed: Group,
+    pub generated: Group,
+    pub refusals: BTreeSet<usize>,
+    pub sets: BTreeSet<usize>,
+    pub rules: BTreeSet<usize>,
+    pub resistant: usize,
+    pub exposed: usize,
+}
+
+impl Tally {
+    pub fn new(alloc: Global) -> Tally {
+        Tally {
+            fixed: Group::EMPTY,
+            generated: Group::EMPTY,
+            refusals: BTreeSet::new(alloc),
+            sets: BTreeSet::new(alloc),
+            rules: BTreeSet::new(alloc),
+            resistant: 0,
+            exposed: 0,
         }
     }
-    first
+
+    /// Counts what an operation answered.
+    fn meet(&mut self, operation: Operation, answer: Answer) -> Result<(), AllocError> {
+        match answer {
+            Err(Refused { number, .. }) => {
+                self.refusals.insert(number)?;
+            }
+            Ok(Reply::Set(code)) if operation == Operation::Decide => {
+                self.sets.insert(code)?;
+            }
+            Ok(Reply::Rule(number)) => {
+                self.rules.insert(number)?;
+            }
+            Ok(Reply::Exposed { .. }) => self.exposed = self.exposed.saturating_add(1),
+            Ok(Reply::Pairs(_)) if operation == Operation::Search => {
+                self.resistant = self.resistant.saturating_add(1);
+            }
+            Ok(_) => {}
+        }
+        Ok(())
+    }
+
+    /// Runs all operations on a case, and gives the first to disagree.
+    pub fn first_to_disagree(&mut self, case: &Case) -> Result<Option<Operation>, AllocError> {
+        let mut first = None;
+        for operation in Operation::ALL {
+            let both = case.run(operation)?;
+            self.meet(operation, both.model)?;
+            if !both.agree {
+                first = first.or(Some(operation));
+            }
+        }
+        Ok(first)
+    }
 }

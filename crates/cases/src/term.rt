@@ -1,223 +1,217 @@
-// A policy as numbered nodes in the order of the file, read without recursion: a stack holds the parts that are due.
-use crate::arrays::{Table, big, byte, get, plus, put};
+//! Policies as terms, read from their files from left to right.
 
-// The columns of a node.
-pub const TAG: usize = 0;
+use crate::answer::Failure;
+use crate::pair::Pair;
+use std::alloc::Global;
 
-pub const FIRST: usize = 1;
-
-pub const SECOND: usize = 2;
-
-pub const PAIR: usize = 3;
-
-pub const FRESH: usize = 4;
-
-// No node has this number: it stands for a part that is not there.
-const NONE: usize = 255;
-
-// The sorts of nodes, and of a byte that is no tag.
-const POLICY: usize = 0;
-
-const TARGET: usize = 1;
-
-const NEITHER: usize = 2;
-
-// The columns of a part that is due: whose it is, which of its parts, its sort, how deep.
-const PARENT: usize = 0;
-
-const PART: usize = 1;
-
-const SORT: usize = 2;
-
-const DEPTH: usize = 3;
-
-// What reading a file came to: a refusal's number and place, else 0 and 0 with the number of nodes or pairs.
-#[derive(Drop)]
-pub struct Outcome {
-    pub number: usize,
-    pub place: usize,
-    pub count: usize,
+/// What is due at a node.
+#[derive(Clone, Copy, PartialEq, Eq)]
+pub enum Sort {
+    Policy,
+    Target,
 }
 
-#[derive(Drop)]
-struct Parser {
-    at: usize,
-    count: usize,
-    waiting: usize,
-    number: usize,
+/// The byte at the front of a node.
+#[derive(Clone, Copy, PartialEq, Eq)]
+pub enum Tag {
+    Atom = 0x10,
+    TargetNot = 0x11,
+    Optional = 0x12,
+    TargetAnd = 0x13,
+    TargetOr = 0x14,
+    Deny = 0x20,
+    Allow = 0x21,
+    Targeted = 0x22,
+    PolicyNot = 0x23,
+    DenyByDefault = 0x24,
+    PolicyAnd = 0x25,
+    PolicyOr = 0x26,
 }
 
-pub fn refused(number: usize, place: usize) -> Outcome {
-    Outcome {
-        number,
-        place,
-        count: 0,
+impl From<Tag> for u8 {
+    fn from(tag: Tag) -> u8 {
+        // No plainer form: the other is a match that writes all the numbers again.
+        tag as u8
     }
 }
 
-// What the first three bytes come to: the numbers of a file that is short, of another version, of another length.
-pub fn framed(file: &[u8], short: usize, version: usize, length: usize) -> Outcome {
-    let n = file.len();
-    if n < 3 {
-        return refused(short, n);
-    }
-    if byte(file, 0) != 1 {
-        return refused(version, 0);
-    }
-    if (byte(file, 1) << 8) | byte(file, 2) != n - 3 {
-        return refused(length, 1);
-    }
-    refused(0, 0)
-}
-
-fn sort_of(tag: usize) -> usize {
-    if 0x10 <= tag && tag <= 0x14 {
-        TARGET
-    } else if 0x20 <= tag && tag <= 0x26 {
-        POLICY
-    } else {
-        NEITHER
-    }
-}
-
-fn parts(tag: usize) -> usize {
-    match tag {
-        0x10 | 0x20 | 0x21 => 0,
-        0x13 | 0x14 | 0x22 | 0x25 | 0x26 => 2,
-        _ => 1,
-    }
-}
-
-// The number of the refusal at one node, or 0, in document 01's order; 15 has the place of 5.
-fn fault(file: &[u8], at: usize, sort: usize, depth: usize, count: usize) -> usize {
-    let n = file.len();
-    let tag = byte(file, at);
-    let met = sort_of(tag);
-    if n <= at {
-        return 4;
-    }
-    if met == NEITHER {
-        return 5;
-    }
-    if met != sort {
-        return 15;
-    }
-    if 32 < depth {
-        return 6;
-    }
-    if 255 <= count {
-        return 7;
-    }
-    if tag == 0x10 && n - at < 5 { 4 } else { 0 }
-}
-
-fn owe(due: &mut Table, i: usize, parent: usize, part: usize, sort: usize, depth: usize) {
-    put(due, i, PARENT, parent);
-    put(due, i, PART, part);
-    put(due, i, SORT, sort);
-    put(due, i, DEPTH, depth);
-}
-
-// Puts a node's parts on the stack, the first on top, and answers how high the stack is then.
-fn owe_parts(due: &mut Table, top: usize, node: usize, tag: usize, sort: usize) -> usize {
-    let depth = plus(get(due, top, DEPTH), 1);
-    let first = if tag == 0x22 { TARGET } else { sort };
-    match parts(tag) {
-        0 => top,
-        1 => {
-            owe(due, top, node, FIRST, sort, depth);
-            plus(top, 1)
+impl Tag {
+    /// The tag of a byte, unless it is none.
+    pub fn of(byte: u8) -> Option<Tag> {
+        match byte {
+            0x10 => Some(Tag::Atom),
+            0x11 => Some(Tag::TargetNot),
+            0x12 => Some(Tag::Optional),
+            0x13 => Some(Tag::TargetAnd),
+            0x14 => Some(Tag::TargetOr),
+            0x20 => Some(Tag::Deny),
+            0x21 => Some(Tag::Allow),
+            0x22 => Some(Tag::Targeted),
+            0x23 => Some(Tag::PolicyNot),
+            0x24 => Some(Tag::DenyByDefault),
+            0x25 => Some(Tag::PolicyAnd),
+            0x26 => Some(Tag::PolicyOr),
+            _ => None,
         }
-        _ => {
-            owe(due, top, node, SECOND, sort, depth);
-            owe(due, plus(top, 1), node, FIRST, first, depth);
-            plus(top, 2)
+    }
+
+    pub fn sort(self) -> Sort {
+        match self {
+            Tag::Atom | Tag::TargetNot | Tag::Optional | Tag::TargetAnd | Tag::TargetOr => {
+                Sort::Target
+            }
+            _ => Sort::Policy,
         }
     }
 }
 
-// A node whose parts come later.
-fn add_node(nodes: &mut Table, n: usize, tag: usize, pair: usize) {
-    put(nodes, n, TAG, tag);
-    put(nodes, n, FIRST, NONE);
-    put(nodes, n, SECOND, NONE);
-    put(nodes, n, PAIR, pair);
+/// A policy or a target. Not, default, and and or mean the same of both.
+// It owns its parts: nothing copies or compares it.
+#[derive(Drop)]
+pub enum Term {
+    Deny,
+    Allow,
+    Atom(Pair),
+    Not(Box<Term>),
+    /// Deny by default, and an optional target.
+    Default(Box<Term>),
+    And(Box<Term>, Box<Term>),
+    Or(Box<Term>, Box<Term>),
+    /// A target, and the policy that it guards.
+    Targeted(Box<Term>, Box<Term>),
 }
 
-fn stopped(s: Parser, number: usize) -> Parser {
-    let mut next = s;
-    next.number = number;
-    next
+/// A policy that was read, with the pairs of its atoms from left to right.
+// It owns a term and a Vec: nothing copies or compares it.
+#[derive(Drop)]
+pub struct Policy {
+    pub term: Box<Term>,
+    pub named: Vec<Pair>,
 }
 
-fn width(tag: usize) -> usize {
-    if tag == 0x10 { 5 } else { 1 }
+/// The numbers of the refusals of a file that is short, of another version, of another length than
+/// it says.
+#[derive(Clone, Copy)]
+pub struct Frame {
+    pub short: usize,
+    pub version: usize,
+    pub length: usize,
 }
 
-// Reads the node that is due next, of which `top` is the place on the stack.
-fn read_node(file: &[u8], nodes: &mut Table, due: &mut Table, s: Parser, top: usize) -> Parser {
-    let sort = get(due, top, SORT);
-    let number = fault(file, s.at, sort, get(due, top, DEPTH), s.count);
-    if number != 0 {
-        return stopped(s, number);
-    }
-    let tag = byte(file, s.at);
-    add_node(nodes, s.count, tag, big(file, plus(s.at, 1)));
-    put(nodes, get(due, top, PARENT), get(due, top, PART), s.count);
-    Parser {
-        at: plus(s.at, width(tag)),
-        count: plus(s.count, 1),
-        waiting: owe_parts(due, top, s.count, tag, sort),
-        number: 0,
+impl Frame {
+    /// The body of a file: what stands behind the version and the length.
+    pub fn body_of(self, file: &[u8]) -> Result<&[u8], Failure> {
+        let [version, high, low, body @ ..] = file else {
+            return Err(Failure::refused(self.short, file.len()));
+        };
+        if *version != 1 {
+            return Err(Failure::refused(self.version, 0));
+        }
+        if usize::from(u16::from_be_bytes([*high, *low])) != body.len() {
+            return Err(Failure::refused(self.length, 1));
+        }
+        Ok(body)
     }
 }
 
-fn step(file: &[u8], nodes: &mut Table, due: &mut Table, s: Parser) -> Parser {
-    let waiting = s.waiting;
-    if waiting == 0 {
-        return s;
-    }
-    if s.number != 0 {
-        return s;
-    }
-    read_node(file, nodes, due, s, waiting - 1)
+/// A policy file, what is left of it, how many nodes there may still be, and the pairs of the atoms
+/// so far.
+// It owns a Vec: nothing copies or compares it.
+#[derive(Drop)]
+struct Reader<'a> {
+    alloc: Global,
+    file: &'a [u8],
+    rest: &'a [u8],
+    nodes_left: usize,
+    named: Vec<Pair>,
 }
 
-// Each turn reads a node or is refused, and the 256th node is refused.
-fn steps(file: &[u8], nodes: &mut Table, due: &mut Table) -> Parser {
-    let mut s = Parser {
-        at: 3,
-        count: 0,
-        waiting: 1,
-        number: 0,
-    };
-    for _ in 0usize..256 {
-        s = step(file, nodes, due, s);
+impl<'a> Reader<'a> {
+    fn place(&self) -> usize {
+        self.file.len().saturating_sub(self.rest.len())
     }
-    s
+
+    /// The tag that comes next, where a node of this sort is due. It stays to be read.
+    fn tag(&self, sort: Sort) -> Result<Tag, Failure> {
+        let Some(byte) = self.rest.first() else {
+            return Err(Failure::refused(4, self.file.len()));
+        };
+        let Some(tag) = Tag::of(*byte) else {
+            return Err(Failure::refused(5, self.place()));
+        };
+        if tag.sort() != sort {
+            return Err(Failure::refused(15, self.place()));
+        }
+        Ok(tag)
+    }
+
+    /// Reads N bytes, which are a part of a node: an array by a const parameter, no buffer.
+    fn take<const N: usize>(&mut self) -> Result<[u8; N], Failure> {
+        let Some((bytes, rest)) = self.rest.split_first_chunk::<N>() else {
+            return Err(Failure::refused(4, self.file.len()));
+        };
+        self.rest = rest;
+        Ok(*bytes)
+    }
+
+    fn pair(&mut self) -> Result<Pair, Failure> {
+        let pair = Pair::from(self.take::<4>()?);
+        self.named.push(pair)?;
+        Ok(pair)
+    }
+
+    /// A term of this sort, of at most so many levels. At a node the tag is judged first, then the
+    /// depth, then the number of nodes, and then an atom's length.
+    fn term(&mut self, sort: Sort, levels: usize) -> Result<Box<Term>, Failure> {
+        let tag = self.tag(sort)?;
+        let Some(levels) = levels.checked_sub(1) else {
+            return Err(Failure::refused(6, self.place()));
+        };
+        let Some(nodes_left) = self.nodes_left.checked_sub(1) else {
+            return Err(Failure::refused(7, self.place()));
+        };
+        self.nodes_left = nodes_left;
+        self.take::<1>()?;
+        let term = match tag {
+            Tag::Deny => Term::Deny,
+            Tag::Allow => Term::Allow,
+            Tag::Atom => Term::Atom(self.pair()?),
+            Tag::TargetNot | Tag::PolicyNot => Term::Not(self.term(sort, levels)?),
+            Tag::Optional | Tag::DenyByDefault => Term::Default(self.term(sort, levels)?),
+            Tag::TargetAnd | Tag::PolicyAnd => {
+                Term::And(self.term(sort, levels)?, self.term(sort, levels)?)
+            }
+            Tag::TargetOr | Tag::PolicyOr => {
+                Term::Or(self.term(sort, levels)?, self.term(sort, levels)?)
+            }
+            Tag::Targeted => Term::Targeted(
+                self.term(Sort::Target, levels)?,
+                self.term(Sort::Policy, levels)?,
+            ),
+        };
+        Ok(Box::new(self.alloc, term)?)
+    }
 }
 
-pub fn read(file: &[u8], nodes: &mut Table) -> Outcome {
-    let frame = framed(file, 1, 2, 3);
-    if frame.number != 0 {
-        return frame;
-    }
-    let mut due = [0usize; 2048];
-    owe(&mut due, 0, NONE, FIRST, POLICY, 1);
-    let s = steps(file, nodes, &mut due);
-    let n = file.len();
-    if s.number == 4 {
-        return refused(4, n);
-    }
-    if s.number != 0 {
-        return refused(s.number, s.at);
-    }
-    if s.at < n {
-        return refused(8, s.at);
-    }
-    Outcome {
-        number: 0,
-        place: 0,
-        count: s.count,
+impl Policy {
+    pub fn read(alloc: Global, file: &[u8]) -> Result<Policy, Failure> {
+        let frame = Frame {
+            short: 1,
+            version: 2,
+            length: 3,
+        };
+        let mut reader = Reader {
+            alloc,
+            file,
+            rest: frame.body_of(file)?,
+            nodes_left: 255,
+            named: Vec::new(alloc),
+        };
+        let term = reader.term(Sort::Policy, 32)?;
+        if !reader.rest.is_empty() {
+            return Err(Failure::refused(8, reader.place()));
+        }
+        let Reader { named, .. } = reader;
+        Ok(Policy { term, named })
     }
 }
