@@ -1,4 +1,4 @@
-/* Document 01's worked policies and edges, document 02's written form, its telling of tags, its or and its second engine of decide through the
+/* The worked policies and edges, the written form, the telling of tags, the or and the second engine of decide through the
  * C face, all operations. */
 #include "../sinkheron.h"
 #include "file.h"
@@ -1007,7 +1007,7 @@ static void lines(void)
     }
 }
 
-/* Each way a text can be refused, with the place that document 02 gives it. */
+/* Each way a text can be refused, with its place. */
 struct fault {
     const char *text;
     uint64_t place;
