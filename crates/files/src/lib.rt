@@ -10,6 +10,7 @@ mod policy;
 mod reader;
 mod request;
 mod tag;
+pub mod tags;
 mod write;
 
 pub use atoms::Atoms;
@@ -17,7 +18,7 @@ pub use fault::{Fault, PolicyError, RequestError, RequestFault};
 pub use pair::Pair;
 pub use pairs::Pairs;
 pub use policy::Policy;
-pub use reader::{DEEPEST, Reader, limit};
+pub use reader::{BEGIN, DEEPEST, Reader, limit};
 pub use request::Request;
 pub use tag::{NoTag, Shape, Sort, Tag};
 pub use write::{put, write_request, write_two};

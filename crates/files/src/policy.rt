@@ -10,7 +10,7 @@ ghost use Rattle.files.specs.AtomsIn.{atoms_in};
 
 use crate::atoms::Atoms;
 use crate::fault::{Fault, PolicyError};
-use crate::reader::{DEEPEST, Reader};
+use crate::reader::{BEGIN, DEEPEST, Reader};
 use crate::tag::Sort;
 use std::marker::Model;
 
@@ -56,7 +56,7 @@ impl<'a> Policy<'a> {
         ensures { scan (in_bytes 255 result.bytes) 32 policy tt result.at result.nodes
             ≡ done self.now (length result.bytes) (nodes self.now) }
     {
-        Reader::new(self.file, 3, 0)
+        Reader::new(self.file, BEGIN, 0)
     }
 
     /// The bytes behind the frame: those of at most 255 nodes.
@@ -65,7 +65,7 @@ impl<'a> Policy<'a> {
         ensures bytes { result.now ≡ enc self.now }
         ensures few { nodes self.now ≤ 255 }
     {
-        &self.file[3..]
+        &self.file[BEGIN..]
     }
 
     /// The pairs of the atoms, from left to right.

@@ -1,10 +1,10 @@
 //! Reading the body of a policy file, node by node.
 
 ghost use Rattle.std.specs.Prelude.{◌≡◌, ◌+◌, ◌<◌, ◌≤◌, min, length, IfOk, IfErr, OnOk, OnErr};
-ghost use Rattle.ptacl.specs.Term.{policy};
+ghost use Rattle.ptacl.specs.Term.{target, policy};
 ghost use Rattle.files.specs.Prefix.{scan};
 ghost use Rattle.files.specs.ReadPolicy.{limit_of, head_at, pair_at, in_bytes, read_policy};
-ghost use Rattle.files.specs.Refusal.{refused};
+ghost use Rattle.files.specs.Refusal.{unframed, refused, accepted};
 ghost use Rattle.files.specs.Faults.{fault_number, PolicyGives};
 ghost use Rattle.files.specs.Tags.{sort_of, tag_sort, pair_of};
 ghost use Rattle.files.specs.Reading.{Place, Limits, Opened, StandsAt, GoesOn, TellsTerm, node_in, told, nothing, ended};
@@ -12,11 +12,14 @@ ghost use Rattle.files.specs.Reading.{Place, Limits, Opened, StandsAt, GoesOn, T
 use crate::fault::{Fault, PolicyError};
 use crate::frame;
 use crate::pair::Pair;
-use crate::tag::{Shape, Sort, Tag};
+use crate::tag::{Sort, Tag};
 use std::marker::Model;
 
 /// How deep a policy may be.
 pub const DEEPEST: usize = 32;
+
+/// Where a policy begins in its file, behind the frame.
+pub const BEGIN: usize = 3;
 
 /// Whether a node is within the limits, with this much depth left and so many nodes before it.
 pub fn limit(left: usize, nodes: usize) -> Result<(), Fault>
@@ -67,9 +70,12 @@ impl<'a> Reader<'a> {
     pub fn open(file: &'a [u8]) -> Result<Reader<'a>, PolicyError>
         ensures opened { IfOk result (Opened file.now) }
         ensures refused { IfErr result (λ e. read_policy file.now ≡ refused (fault_number e.fault) e.place) }
+
+        // So a whole frame is opened, whatever stands in it.
+        ensures framed { IfErr result (λ e. unframed 1 file.now (accepted (tt {0})) ≡ refused (fault_number e.fault) e.place) }
     {
         frame::body_of(file)?;
-        Ok(Reader::new(file, 3, 0))
+        Ok(Reader::new(file, BEGIN, 0))
     }
 
     /// Another reader that stands where this one does, to read the same bytes once more.
@@ -139,20 +145,47 @@ impl<'a> Reader<'a> {
     }
 
     /// Goes past a term of at most `left` levels.
-    #[tactic(auto, using(crate::proofs::Terms::term_more))]
     pub fn term(&mut self, sort: Sort, left: usize) -> Result<(), Fault>
         ensures { TellsTerm {s = sort_of sort} (λ x. x) nothing left result self.old self.new }
     {
-        match self.node(sort, left)?.shape() {
-            Shape::Numbers => {
+        match sort {
+            Sort::Target => self.target(left),
+            Sort::Policy => self.policy(left),
+        }
+    }
+
+    // Each sort has a function of its own, in which the test of a node's sort is one of a constant.
+    #[tactic(auto, using(crate::proofs::Terms::term_more))]
+    fn target(&mut self, left: usize) -> Result<(), Fault>
+        ensures { TellsTerm {s = target} (λ x. x) nothing left result self.old self.new }
+    {
+        match self.node(Sort::Target, left)? {
+            Tag::TargetAtom => {
                 self.pair()?;
                 Ok(())
             }
-            Shape::Leaf => Ok(()),
-            Shape::One => self.term(sort, left - 1),
-            Shape::Two(first) => {
-                self.term(first, left - 1)?;
-                self.term(sort, left - 1)
+            Tag::TargetNot | Tag::TargetOptional => self.target(left - 1),
+            _ => {
+                self.target(left - 1)?;
+                self.target(left - 1)
+            }
+        }
+    }
+
+    #[tactic(auto, using(crate::proofs::Terms::term_more))]
+    fn policy(&mut self, left: usize) -> Result<(), Fault>
+        ensures { TellsTerm {s = policy} (λ x. x) nothing left result self.old self.new }
+    {
+        match self.node(Sort::Policy, left)? {
+            Tag::Deny | Tag::Allow => Ok(()),
+            Tag::PolicyNot | Tag::DenyByDefault => self.policy(left - 1),
+            Tag::Targeted => {
+                self.target(left - 1)?;
+                self.policy(left - 1)
+            }
+            _ => {
+                self.policy(left - 1)?;
+                self.policy(left - 1)
             }
         }
     }

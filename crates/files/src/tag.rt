@@ -3,6 +3,8 @@
 ghost use Rattle.std.specs.Prelude.{◌≡◌, ◌↔◌, IsTrue};
 ghost use Rattle.files.specs.Tags.{byte_of, tag_sort, tag_shape, Decodes};
 
+use crate::tags;
+
 /// A term is a target or a policy.
 #[derive(Clone, Copy, Debug, PartialEq, Eq)]
 pub enum Sort {
@@ -22,18 +24,18 @@ pub enum Shape {
 /// A node, by the byte that stands for it.
 #[derive(Clone, Copy, Debug, PartialEq, Eq)]
 pub enum Tag {
-    TargetAtom = 0x10,
-    TargetNot = 0x11,
-    TargetOptional = 0x12,
-    TargetAnd = 0x13,
-    TargetOr = 0x14,
-    Deny = 0x20,
-    Allow = 0x21,
-    Targeted = 0x22,
-    PolicyNot = 0x23,
-    DenyByDefault = 0x24,
-    PolicyAnd = 0x25,
-    PolicyOr = 0x26,
+    TargetAtom = tags::TARGET_ATOM as isize,
+    TargetNot = tags::TARGET_NOT as isize,
+    TargetOptional = tags::TARGET_OPTIONAL as isize,
+    TargetAnd = tags::TARGET_AND as isize,
+    TargetOr = tags::TARGET_OR as isize,
+    Deny = tags::DENY as isize,
+    Allow = tags::ALLOW as isize,
+    Targeted = tags::TARGETED as isize,
+    PolicyNot = tags::POLICY_NOT as isize,
+    DenyByDefault = tags::DENY_BY_DEFAULT as isize,
+    PolicyAnd = tags::POLICY_AND as isize,
+    PolicyOr = tags::POLICY_OR as isize,
 }
 
 /// A byte that stands for no node.
@@ -47,18 +49,18 @@ impl TryFrom<u8> for Tag {
 
     fn try_from(byte: u8) -> Result<Tag, NoTag> {
         match byte {
-            0x10 => Ok(Tag::TargetAtom),
-            0x11 => Ok(Tag::TargetNot),
-            0x12 => Ok(Tag::TargetOptional),
-            0x13 => Ok(Tag::TargetAnd),
-            0x14 => Ok(Tag::TargetOr),
-            0x20 => Ok(Tag::Deny),
-            0x21 => Ok(Tag::Allow),
-            0x22 => Ok(Tag::Targeted),
-            0x23 => Ok(Tag::PolicyNot),
-            0x24 => Ok(Tag::DenyByDefault),
-            0x25 => Ok(Tag::PolicyAnd),
-            0x26 => Ok(Tag::PolicyOr),
+            tags::TARGET_ATOM => Ok(Tag::TargetAtom),
+            tags::TARGET_NOT => Ok(Tag::TargetNot),
+            tags::TARGET_OPTIONAL => Ok(Tag::TargetOptional),
+            tags::TARGET_AND => Ok(Tag::TargetAnd),
+            tags::TARGET_OR => Ok(Tag::TargetOr),
+            tags::DENY => Ok(Tag::Deny),
+            tags::ALLOW => Ok(Tag::Allow),
+            tags::TARGETED => Ok(Tag::Targeted),
+            tags::POLICY_NOT => Ok(Tag::PolicyNot),
+            tags::DENY_BY_DEFAULT => Ok(Tag::DenyByDefault),
+            tags::POLICY_AND => Ok(Tag::PolicyAnd),
+            tags::POLICY_OR => Ok(Tag::PolicyOr),
             _ => Err(NoTag),
         }
     }

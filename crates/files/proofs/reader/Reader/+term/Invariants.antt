@@ -1,4 +1,0 @@
-use Rattle.files.proofs.reader.Reader.+term.Given as goal
-
-abbrev pub decreases-term : goal.decreases-term
-decreases-term l = l.left
