@@ -4,6 +4,6 @@
 
 mod policy;
 mod read;
-mod walk;
+pub mod walk;
 
 pub use policy::FlatPolicy;

@@ -5,6 +5,8 @@ ghost use Rattle.ptacl.specs.Meaning.{eval};
 ghost use Rattle.ptacl.specs.Values.{code};
 ghost use Rattle.files.specs.ReadPolicy.{read_policy};
 ghost use Rattle.files.specs.Faults.{PolicyGives};
+ghost use Rattle.files.specs.Encoding.{policy_file};
+ghost use Rattle.flat.specs.Places.{Noted};
 
 use crate::read::read_nodes;
 use crate::walk::walk;
@@ -55,6 +57,13 @@ impl<'a> FlatPolicy<'a> {
             file,
             places: &places[..nodes],
         })
+    }
+
+    /// Where its nodes stand in its file, from left to right: one place for each.
+    pub fn places(&self) -> &'a [u16]
+        ensures { Noted (policy_file self.now) result.now }
+    {
+        self.places
     }
 
     /// The set that the policy comes to.
