@@ -2,18 +2,20 @@
 use Prim.Native.Nat.{ℕ, zero, suc, ◌+◌, ◌*◌, ◌≤◌, ◌<◌}
 use mathlib.Core.Path.{◌≡◌, refl, sym, ap, subst, ◌∙◌}
 use mathlib.Core.Logic.{⊎_elim}
-use mathlib.Core.Bool.{true, false, ◌||◌, or_assoc, or-false}
+use mathlib.Core.Bool.{true, false, not, ◌||◌, or_assoc, or-false}
 use mathlib.Core.List.{List, [], ◌∷◌, ◌++◌, map, map-append}
 use native.Mathlib.Numerals.{add-one}
 use native.Mathlib.Omega.{arith}
-use lib.Dec.{ltb}
+use lib.Dec.{eqb, ltb}
 use lib.ListN.{length, take, drop, get_or, length-map, length-drop, drop_of_length-le}
 use lib.Seq.{drop-cons, take-suc, take_all}
-use borrow.Author.Tests.{lt-ltb}
+use borrow.Author.Tests.{lt-ltb, eqb-true}
+use Rattle.std.specs.Prelude.{Option, None, Some, IfSome}
+use Rattle.std.specs.Option.{option_eq}
 use Rattle.ptacl.specs.Request.{Pair, same_pair, holds, has, below, below_head, ascending}
 use Rattle.ptacl.specs.Pairs.{named, all_below, fresh, IsPairs}
-use Rattle.ptacl.proofs.Bools.{clash, refute, and_right, and_both, not_false, or_right, or_split, or_swap, eqb_same}
-use Rattle.ptacl.proofs.Requests.{pair_equal, found, holds_has, holds_append}
+use Rattle.ptacl.proofs.Bools.{either, clash, refute, and_right, and_both, not_false, or_right, or_split, or_swap, eqb_same}
+use Rattle.ptacl.proofs.Requests.{pair_equal, found, holds_head, holds_has, holds_append}
 use Rattle.ptacl.proofs.Order.{below_trans, below_apart, head_below}
 use Rattle.ptacl.proofs.Fresh.{full, fresh_one, fresh_exists, fresh_value}
 use Rattle.ptacl.proofs.Pairs.{fresh_pair, all_holds}
@@ -93,7 +95,7 @@ fresh_is ats n x u f =
 -- each pair with the fresh one of its name
 abbrev pub each_with_fresh : List Pair → List Pair → List Pair
 each_with_fresh ats [] = []
-each_with_fresh ats (y ∷ ys) = y ∷ fresh_pair ats y ∷ each_with_fresh ats ys
+each_with_fresh ats (y ∷ ys) = fresh_pair ats y ∷ y ∷ each_with_fresh ats ys
 
 each_length : (ats ys : List Pair) → length (each_with_fresh ats ys) ≡ 2 * length ys
 each_length ats [] = omega arith
@@ -105,12 +107,28 @@ each_holds ats (y ∷ ys) z =
     let own = same_pair y z in
     let new = same_pair (fresh_pair ats y) z in
     let later = holds (map (fresh_pair ats) ys) z in
-    ap (λ b. own || (new || b)) (each_holds ats ys z)
-    ∙ (ap (λ b. own || b) (or_swap new (holds ys z) later) ∙ sym (or_assoc own (holds ys z) (new || later)))
+    ap (λ b. new || (own || b)) (each_holds ats ys z)
+    ∙ (or_swap new own (holds ys z || later)
+    ∙ (ap (λ b. own || b) (or_swap new (holds ys z) later) ∙ sym (or_assoc own (holds ys z) (new || later))))
 
 module _ (named_pairs : List PairC) where
   abbrev ats : List Pair
   ats = map pair_of named_pairs
+
+  -- the fresh pair of the name that was met last is in the list
+  abbrev pub LastPut : Option ℕ → List Pair → Type 0
+  LastPut last ps = IfSome last (λ n. holds ps (n, fresh_value ats n) ≡ true)
+
+  pub last_kept : {x : Pair} {old new : List Pair} (last : Option ℕ) → LastPut last old → PutIn x old new → LastPut last new
+  last_kept None h a = tt
+  last_kept {x} (Some n) h a = a.members (n, fresh_value ats n) ∙ or_right (same_pair x (n, fresh_value ats n)) h
+
+  pub last_there : (ps : List Pair) (last : Option ℕ) (n : ℕ) → LastPut last ps → not (option_eq eqb last (Some n)) ≡ false
+      → holds ps (n, fresh_value ats n) ≡ true
+  last_there ps None n h e = clash refl e
+  last_there ps (Some m) n h e = either (eqb m n)
+      (λ k. subst (λ v. holds ps (v, fresh_value ats v) ≡ true) (eqb-true m n k) h)
+      (λ k. clash (not_false k) e)
 
   -- still to come from a place on
   abbrev pub coming : ℕ → List Pair
@@ -123,7 +141,7 @@ module _ (named_pairs : List PairC) where
     abbrev p : PairC
     p = get_or named_pairs i d
 
-    split : coming i ≡ pair_of p ∷ fresh_pair ats (pair_of p) ∷ coming (i + 1)
+    split : coming i ≡ fresh_pair ats (pair_of p) ∷ pair_of p ∷ coming (i + 1)
     split =
         let e : drop i named_pairs ≡ p ∷ drop (i + 1) named_pairs = rw (drop-cons named_pairs i d inside, add-one i) in
         ap (λ xs. each_with_fresh ats (map pair_of xs)) e
@@ -131,12 +149,22 @@ module _ (named_pairs : List PairC) where
     used : has ats p.name ≡ true
     used = holds_has ats (pair_of p) (at_held named_pairs i d inside)
 
-    pub coming_next : {pairs two : List PairC} {x : Pair} (one : List PairC) → Gathered 254 (coming 0) (coming i) pairs
-        → PutIn (pair_of p) (map pair_of pairs) (map pair_of one) → length one ≤ length pairs + 1
-        → FreshOf ats p.name x → PutIn x (map pair_of one) (map pair_of two) → length two ≤ length one + 1
-        → Gathered 254 (coming 0) (coming (i + 1)) two
-    coming_next {x} one g a h f b k =
-        gathered_next (gathered_next g split a h) refl (rw (fresh_is ats p.name x used f) at b) k
+    pub fresh_put : {x : Pair} {old new : List Pair} → FreshOf ats p.name x → PutIn x old new → PutIn (fresh_pair ats (pair_of p)) old new
+    fresh_put {x} f b = rw (fresh_is ats p.name x used f) at b
+
+    -- so the name is the one met last
+    pub last_new : {old new : List Pair} → PutIn (fresh_pair ats (pair_of p)) old new → LastPut (Some p.name) new
+    last_new {old} a = a.members (fresh_pair ats (pair_of p)) ∙ holds_head (fresh_pair ats (pair_of p)) old
+
+    -- the fresh pair is in, and the pair itself comes next
+    pub record Halfway (last : Option ℕ) (pairs : List PairC) : Type 0 where
+      pub gathered : Gathered 254 (coming 0) (pair_of p ∷ coming (i + 1)) pairs
+      pub last_put : LastPut last (map pair_of pairs)
+
+    pub halfway : {last : Option ℕ} {pairs one : List PairC} → Gathered 254 (coming 0) (coming i) pairs
+        → PutIn (fresh_pair ats (pair_of p)) (map pair_of pairs) (map pair_of one) → length one ≤ length pairs + 1
+        → LastPut last (map pair_of one) → Halfway last one
+    halfway g a h k = record { gathered = gathered_next g split a h; last_put = k }
 
   pub coming_room : (i : ℕ) {pairs : List PairC} → i < length named_pairs → Gathered 254 (coming 0) (coming i) pairs → length pairs < 254
   coming_room i h g =

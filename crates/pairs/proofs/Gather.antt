@@ -1,5 +1,5 @@
 -- Pairs put one by one into a list that ascends.
-use Prim.Native.Nat.{ℕ, ◌+◌, ◌≤◌}
+use Prim.Native.Nat.{ℕ, ◌+◌, ◌<◌, ◌≤◌}
 use mathlib.Core.Path.{◌≡◌, refl, sym, ap, ◌∙◌}
 use mathlib.Core.Bool.{true, ◌||◌, or_assoc, or-false}
 use mathlib.Core.List.{List, [], ◌∷◌, map}
@@ -35,3 +35,6 @@ module _ {most : ℕ} {all left : List Pair} {pairs : List PairC} (g : Gathered 
 
   pub gathered_all : left ≡ [] → (z : Pair) → holds (map pair_of pairs) z ≡ holds all z
   gathered_all e z = sym (or-false (holds (map pair_of pairs) z)) ∙ (rw e at (g.work z))
+
+  pub gathered_room : {x : Pair} {rest : List Pair} → left ≡ x ∷ rest → length pairs < most
+  gathered_room e = omega (arith, g.room, ap length e)

@@ -1,4 +1,5 @@
 pub mod Placed
+pub mod Last
 pub mod Gather
 pub mod Fresh
 pub mod Same

@@ -1,20 +1,25 @@
 -- A pair put into its place in an ascending list: the order by which it is sought, and the list with it.
-use Prim.Native.Nat.{ℕ, zero, suc, ◌≤◌, ◌<◌}
+use Prim.Native.Nat.{ℕ, zero, suc, ◌-◌, ◌≤◌, ◌<◌}
 use mathlib.Core.Path.{◌≡◌, refl, sym, ap, subst, ◌∙◌}
 use mathlib.Core.Bool.{Bool, true, false, cond, ◌&&◌, ◌||◌}
 use mathlib.Core.List.{List, [], ◌∷◌, ◌++◌, map}
+use native.Mathlib.Decide.{ℕ_discrete}
 use native.Mathlib.Omega.{arith}
 use lib.Dec.{eqb, ltb}
 use lib.ListN.{length, take, drop, get_or}
+use borrow.Author.Tests.{eq-eqb, ne_eqb}
+use Rattle.std.specs.Prelude.{Some, Result, Ok, Err, IfSome, IfOk, IfErr, slice_get}
 use Rattle.std.specs.List.{HoldsAt}
-use Rattle.std.specs.List.Sorted.{IsNonDecreasingBy, IsPartitionPoint}
+use Rattle.std.specs.List.Sorted.{IsNonDecreasingBy, IsPartitionPoint, IsSearchInRange, IsBinarySearchResult}
 use Rattle.std.specs.Ordering.{nat_cmp, ordering_then, ordering_index}
 use Rattle.std.specs.declared.cmp.Ordering.{Ordering}
 use Rattle.std.specs.declared.cmp.Ordering.TheVariants.{Less, Equal, Greater}
 use Rattle.ptacl.specs.Request.{Pair, same_pair, holds, below, below_head, ascending}
-use Rattle.ptacl.proofs.Bools.{either, and_right, and_both, or_right, or_swap}
+use Rattle.ptacl.proofs.Bools.{either, and_left, and_right, and_both, or_right, or_swap}
 use Rattle.ptacl.proofs.Requests.{holds_head, found, pair_equal}
 use Rattle.ptacl.proofs.Order.{below_trans, below_else, head_below, cons_ascending}
+use Rattle.ptacl.specs.Pairs.{packed}
+use Rattle.files.proofs.Numbers.{below_packed}
 use Rattle.files.specs.Tags.{pair_of}
 use Rattle.files.specs.declared.pair.Pair.{Pair as PairC}
 use Rattle.pairs.specs.Lists.{PutIn}
@@ -29,8 +34,23 @@ by_parts true e b f = refl
 by_parts false true b f = refl
 by_parts false false b f = refl
 
--- the derived order is by name and then value
-abbrev stands : PairC → PairC → Ordering
+-- numbers stand to each other as their pairs do
+same_number : (x y : Pair) → x.1 < 65536 → y.1 < 65536 → same_pair x y ≡ eqb (packed x) (packed y)
+same_number x y h k = elim (ℕ_discrete x.0 y.0) [
+  | no n ↦ rw (ne_eqb _ _ n) (sym (ne_eqb (packed x) (packed y) (λ e. n (omega arith))))
+  | yes e ↦ rw (eq-eqb _ _ e) (elim (ℕ_discrete x.1 y.1) [
+    | no n ↦ rw (ne_eqb _ _ n) (sym (ne_eqb (packed x) (packed y) (λ f. n (omega arith))))
+    | yes f ↦ rw (eq-eqb _ _ f) (sym (eq-eqb (packed x) (packed y) (omega arith)))
+  ])
+]
+
+pub by_number : (x y : Pair) → x.1 < 65536 → y.1 < 65536 → ordering_then (nat_cmp x.0 y.0) (nat_cmp x.1 y.1) ≡ nat_cmp (packed x) (packed y)
+by_number x y h k =
+    by_parts (ltb x.0 y.0) (eqb x.0 y.0) (ltb x.1 y.1) (eqb x.1 y.1)
+    ∙ (λ i. cond (below_packed x y h k i) Less (cond (same_number x y h k i) Equal Greater))
+
+-- the order is by name and then value
+abbrev pub stands : PairC → PairC → Ordering
 stands p y = ordering_then (nat_cmp y.name p.name) (nat_cmp y.value p.value)
 
 stands_so : (p y : PairC) → stands p y ≡ ranked (pair_of p) (pair_of y)
@@ -81,6 +101,13 @@ ranks_rise p (y ∷ xs) a (suc i) zero d h k = absurd (omega arith)
 ranks_rise p (y ∷ xs) a (suc i) (suc j) d h k =
     ranks_rise p xs (and_right (below_head (pair_of y) (map pair_of xs)) a) i j d (omega arith) (omega arith)
 
+-- a pair that is there already is put in by leaving the list as it is
+pub held_put : {x : Pair} {ps : List Pair} → ascending ps ≡ true → holds ps x ≡ true → PutIn x ps ps
+held_put {x} {ps} a h = record {
+  ordered = a;
+  members = λ z. either (same_pair x z) (λ s. rw s (subst (λ w. holds ps w ≡ true) (pair_equal x z s) h)) (λ s. rw s);
+}
+
 module _ (p : PairC) where
   abbrev with_pair : List PairC → ℕ → List PairC
   with_pair xs i = take i xs ++ p ∷ drop i xs
@@ -105,11 +132,33 @@ module _ (p : PairC) where
       (put_ascending xs i (and_right (below_head (pair_of y) (map pair_of xs)) a)
       (λ k l. f (suc k) (omega arith)) (λ k l m. g (suc k) (omega arith) (omega arith)))
 
-  -- at the place that the search found, or where it found the pair itself
-  module _ (xs : List PairC) (i : ℕ) (a : ascending (map pair_of xs) ≡ true) where
-    pub put_there : (IsNonDecreasingBy (λ y. ordering_index (stands p y)) xs → IsPartitionPoint (λ y. stands p y ≡ Less) (λ y. stands p y ≡ Greater) xs i)
+  -- behind all others
+  put_last : (xs : List PairC) (i : ℕ) → i ≡ length xs - 1 → ascending (map pair_of xs) ≡ true
+      → IfSome (slice_get xs i) (λ l. below (pair_of l) (pair_of p) ≡ true) → PutIn (pair_of p) (map pair_of xs) (map pair_of (xs ++ p ∷ []))
+  put_last xs i e a b = record { ordered = rises xs i e a b; members = members xs }
+    where
+      rises : (xs : List PairC) (i : ℕ) → i ≡ length xs - 1 → ascending (map pair_of xs) ≡ true
+          → IfSome (slice_get xs i) (λ l. below (pair_of l) (pair_of p) ≡ true) → ascending (map pair_of (xs ++ p ∷ [])) ≡ true
+      rises [] i e a b = refl
+      rises (y ∷ []) zero e a b = and_both b refl
+      rises (y ∷ []) (suc i) e a b = absurd (omega arith)
+      rises (y ∷ z ∷ xs) zero e a b = absurd (omega arith)
+      rises (y ∷ z ∷ xs) (suc i) e a b = and_both (and_left _ a) (rises (z ∷ xs) i (omega arith) (and_right (below (pair_of y) (pair_of z)) a) b)
+
+      members : (xs : List PairC) (z : Pair) → holds (map pair_of (xs ++ p ∷ [])) z ≡ (same_pair (pair_of p) z || holds (map pair_of xs) z)
+      members [] z = refl
+      members (y ∷ xs) z =
+          ap (λ b. same_pair (pair_of y) z || b) (members xs z) ∙ or_swap (same_pair (pair_of y) z) (same_pair (pair_of p) z) (holds (map pair_of xs) z)
+
+  pub above_last : (xs : List PairC) {l : PairC} → ascending (map pair_of xs) ≡ true → Some l ≡ slice_get xs (length xs - 1)
+      → below (pair_of l) (pair_of p) ≡ true → PutIn (pair_of p) (map pair_of xs) (map pair_of (xs ++ p ∷ []))
+  above_last xs a e b = put_last xs _ refl a (subst (λ o. IfSome o (λ l. below (pair_of l) (pair_of p) ≡ true)) e b)
+
+  -- what the search found: the pair itself, or the place that parts those below it from those above
+  module _ (xs : List PairC) (a : ascending (map pair_of xs) ≡ true) where
+    put_there : (i : ℕ) → (IsNonDecreasingBy (λ y. ordering_index (stands p y)) xs → IsPartitionPoint (λ y. stands p y ≡ Less) (λ y. stands p y ≡ Greater) xs i)
         → PutIn (pair_of p) (map pair_of xs) (map pair_of (with_pair xs i))
-    put_there found =
+    put_there i found =
         let point = found (ranks_rise p xs a) in
         record {
           ordered = put_ascending xs i a
@@ -118,12 +167,16 @@ module _ (p : PairC) where
           members = put_holds xs i;
         }
 
-    pub is_there : i < length xs → HoldsAt (λ y. stands p y ≡ Equal) xs i → PutIn (pair_of p) (map pair_of xs) (map pair_of xs)
-    is_there l e =
+    is_there : (i : ℕ) → i < length xs → HoldsAt (λ y. stands p y ≡ Equal) xs i → holds (map pair_of xs) (pair_of p) ≡ true
+    is_there i l e =
         let same : pair_of (get_or xs i p) ≡ pair_of p = is_equal (pair_of p) _ (sym (stands_so p (get_or xs i p)) ∙ e p) in
-        let there = subst (λ z. holds (map pair_of xs) z ≡ true) same (at_held xs i p l) in
-        record {
-          ordered = a;
-          members = λ z. either (same_pair (pair_of p) z)
-              (λ s. rw s (subst (λ w. holds (map pair_of xs) w ≡ true) (pair_equal (pair_of p) z s) there)) (λ s. rw s);
-        }
+        subst (λ z. holds (map pair_of xs) z ≡ true) same (at_held xs i p l)
+
+    pub record Sought (r : Result ℕ ℕ) : Type 0 where
+      pub there : IfOk r (λ i. holds (map pair_of xs) (pair_of p) ≡ true)
+      pub bound : IfErr r (λ i. i ≤ length xs)
+      pub place : IfErr r (λ i. PutIn (pair_of p) (map pair_of xs) (map pair_of (with_pair xs i)))
+
+    pub sought : (r : Result ℕ ℕ) → IsSearchInRange r (length xs) → IsBinarySearchResult (stands p) xs r → Sought r
+    sought (Ok i) l e = record { there = is_there i l e; bound = tt; place = tt }
+    sought (Err i) l e = record { there = tt; bound = l; place = put_there i e }

@@ -19,6 +19,7 @@ ghost use Rattle.sinkheron.specs.Ways.{Writes};
 
 mod refusal;
 
+use arrayvec::ArrayVec;
 use certify::Rule;
 use files::{Pair, Policy, Request};
 use flat::FlatPolicy;
@@ -100,7 +101,8 @@ pub fn list_pairs(policy: &[u8], space: &mut [u32]) -> Result<usize, Refusal>
     ensures { L.Lists policy.now space.old (L.answer_of result) space.new }
 {
     let policy = Policy::read(policy)?;
-    let pairs = pairs::pairs_of(&policy);
+    let mut pairs = ArrayVec::new();
+    pairs::pairs_of(&policy, &mut pairs);
     if space.len() < pairs.len() {
         return Err(Refusal::NoSpace);
     }
@@ -114,7 +116,8 @@ pub fn normal_form(policy: &[u8], request: &[u8], space: &mut [u8]) -> Result<us
     ensures { N.Normalises policy.now request.now space.old (O.answer_of result) space.new }
 {
     let (policy, request) = (Policy::read(policy)?, Request::read(request)?);
-    let form = pairs::normal_form_of(&policy, &request);
+    let mut form = ArrayVec::new();
+    pairs::normal_form_of(&policy, &request, &mut form);
     if space.len() < 3 + 4 * form.len() {
         return Err(Refusal::NoSpace);
     }
@@ -168,7 +171,8 @@ pub fn search(policy: &[u8], space: &mut [u8]) -> Result<Verdict, Refusal>
     ensures { S.Searches policy.now space.old (S.answer_of result) space.new }
 {
     let policy = Policy::read(policy)?;
-    let pairs = pairs::pairs_of(&policy);
+    let mut pairs = ArrayVec::new();
+    pairs::pairs_of(&policy, &mut pairs);
     let Some(subsets) = Subsets::new(&policy, &pairs) else {
         return Err(Refusal::TooManyPairs);
     };

@@ -7,7 +7,7 @@ use Rattle.pairs.proofs.normal_form_of.Goals as goal
 
 pub returns-clause-normal : goal.returns-clause-normal
 returns-clause-normal c =
-    let named = c.named_of-pairs.result.items in
+    let named = c.named_of.new.pairs.items in
     let q = c.args.request.now in
     let same = filter-from_retain _ (λ p. kept (map pair_of named) q (pair_of p)) _ (λ x b f' y k. search rules) _ _ c.retain.ensures.filtered in
-    rw same (kept_all named c.with_fresh-kept.result.items q c.named_of-pairs.ensures.named (rw c.as_slice.ensures.value at c.with_fresh-kept.ensures))
+    rw same (kept_all named c.with_fresh.new.pairs.items q c.named_of.ensures.named (rw c.as_slice.ensures.value at c.with_fresh.ensures.pairs))
