@@ -1,4 +1,4 @@
 pub mod Policies
+pub mod Plain
 pub mod Never
-pub mod Certified
-pub mod Lacking
+pub mod Given

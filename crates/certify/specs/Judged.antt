@@ -1,12 +1,27 @@
 -- What the certifier's walks tell of a policy.
-use Rattle.std.specs.Prelude.{ℕ, Bool}
+use Rattle.std.specs.Prelude.{ℕ, Bool, ◌&&◌, cond}
 use Rattle.ptacl.specs.Term.{Policy}
-use Rattle.ptacl.specs.Rules.{Effect, never, base}
+use Rattle.ptacl.specs.Rules.{allows, denies, never, certificate}
+use Rattle.files.specs.declared.tag.Tag.{Tag}
+use Rattle.certify.specs.declared.missing.Missing.{Missing}
+use Rattle.certify.specs.declared.judged.Judged.{Judged}
+use Rattle.certify.specs.Missing.{missing_in, missing_at, missing_both}
+use Rattle.certify.specs.Numbers.{number_of}
 
--- that it never has the effect
-abbrev pub never_has : Effect → Policy → Bool
-never_has e p = never p e
+-- whether it never allows, what it has not, its certificate
+abbrev pub allowing : Policy → Bool × Missing × ℕ
+allowing p = (never p allows, missing_in p, certificate p)
 
--- the number of the first of the rules 1 to 4 that applies, else 0
-abbrev pub first_of_four : Policy → ℕ
-first_of_four p = base p 0
+-- whether it never denies, what it has not
+abbrev pub denying : Policy → Bool × Missing
+denying p = (never p denies, missing_in p)
+
+-- what the code holds of it
+abbrev pub seen : Bool → Judged → Bool × Missing × ℕ
+seen never judged = (never, judged.missing, number_of judged.rule)
+
+-- of a node, by whether it never allows, what is missing below it, and the number by the policies below it
+abbrev pub decided : Tag → Bool → Missing → ℕ → Bool × Missing × ℕ
+decided tag n below k =
+    let m = missing_both (missing_at tag) below in
+    (n, m, cond n 1 (cond m.targeted 2 (cond (m.target_not && m.deny_by_default) 3 (cond (m.target_not && m.policy_not) 4 k))))

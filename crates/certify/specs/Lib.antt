@@ -1,3 +1,3 @@
 pub mod Numbers
-pub mod Judged
 pub mod Missing
+pub mod Judged

@@ -1,5 +1,5 @@
 -- Which of the nodes that the rules 2, 3 and 4 ask about a term has not.
-use Rattle.std.specs.Prelude.{ℕ, not as no, ◌&&◌, cond, eqb}
+use Rattle.std.specs.Prelude.{ℕ, Bool, not as no, ◌&&◌, cond, eqb}
 use Rattle.ptacl.specs.Term.{Sort, target, policy, Term, a_targeted, a_not, a_default, without}
 use Rattle.files.specs.Tags.{byte_of}
 use Rattle.files.specs.declared.tag.Tag.{Tag}
@@ -30,6 +30,10 @@ missing_both x y = record {
   deny_by_default = x.deny_by_default && y.deny_by_default;
   policy_not = x.policy_not && y.policy_not;
 }
+
+-- what a target, plain or not, and a policy have not
+abbrev pub missing_with : Bool → Missing → Missing
+missing_with is_plain m = record m { target_not = is_plain && m.target_not }
 
 -- the number of the first of the rules 2, 3 and 4 that applies, else 0
 abbrev pub rule_by_missing : Missing → ℕ

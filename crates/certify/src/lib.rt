@@ -1,124 +1,167 @@
 //! Certificates by structure: whether a policy's nodes alone show it resistant, and by which rule.
-//! A policy is judged while its file is read.
+//! A policy is judged in one pass, while its file is read.
 #![tactic(auto)]
 
+mod judged;
 mod missing;
 mod rule;
 
 ghost use Rattle.std.specs.Prelude.{◌≡◌};
-ghost use Rattle.ptacl.specs.Term.{policy};
-ghost use Rattle.ptacl.specs.Rules.{allows, denies, certificate};
+ghost use Rattle.ptacl.specs.Term.{target, policy};
+ghost use Rattle.ptacl.specs.Rules.{plain, certificate};
 ghost use Rattle.files.specs.Faults.{PolicyGives};
 ghost use Rattle.files.specs.ReadPolicy.{read_policy};
 ghost use Rattle.files.specs.Reading.{TellsTerm, read_map};
-ghost use Rattle.certify.specs.Judged.{never_has, first_of_four};
+ghost use Rattle.certify.specs.Judged.{allowing, denying, seen};
 ghost use Rattle.certify.specs.Numbers.{number_of};
 
 use files::{DEEPEST, Fault, PolicyError, Reader, Sort, Tag};
+use judged::Judged;
 use missing::Missing;
 pub use rule::Rule;
 
-// The depth left falls from call to call and is not the reader's, so it stays beside it.
-/// Whether the policy never allows.
-#[cycle(never_allows_never_denies)]
-#[tactic(auto, using(crate::proofs::Never::never_more))]
-fn never_allows(reader: &mut Reader<'_>, left: usize) -> Result<bool, Fault>
-    ensures { TellsTerm {s = policy} (λ x. x) (never_has allows) left result reader.old reader.new }
+/// Whether there is no not in a target.
+#[tactic(auto, using(crate::proofs::Plain::plain_more))]
+fn is_plain(reader: &mut Reader<'_>, left: usize) -> Result<bool, Fault>
+    ensures { TellsTerm {s = target} (λ x. x) plain left result reader.old reader.new }
 {
-    match reader.node(Sort::Policy, left)? {
-        Tag::Deny => Ok(true),
-        Tag::Allow => Ok(false),
-        Tag::Targeted => {
-            reader.term(Sort::Target, left - 1)?;
-            never_allows(reader, left - 1)
+    match reader.node(Sort::Target, left)? {
+        Tag::TargetAtom => {
+            reader.pair()?;
+            Ok(true)
         }
-        Tag::PolicyNot => never_denies(reader, left - 1),
-        Tag::DenyByDefault => never_allows(reader, left - 1),
+        Tag::TargetNot => {
+            is_plain(reader, left - 1)?;
+            Ok(false)
+        }
+        Tag::TargetOptional => is_plain(reader, left - 1),
+        Tag::TargetAnd | Tag::TargetOr => {
+            let first = is_plain(reader, left - 1)?;
+            let second = is_plain(reader, left - 1)?;
+            Ok(first && second)
+        }
+        _ => unreachable!(), // a policy's node
+    }
+}
+
+// The depth left falls from call to call and is not the reader's, so it stays beside it. What else
+// the rules ask is lent, not returned: it would be copied at every node.
+/// Whether the policy never allows; and what else the rules ask of it, with the first that applies.
+#[cycle(never_allows_never_denies)]
+#[tactic(auto, using(crate::proofs::Never::allowing_more))]
+fn never_allows(reader: &mut Reader<'_>, left: usize, judged: &mut Judged) -> Result<bool, Fault>
+    ensures { TellsTerm {s = policy} (λ never. seen never judged.new) allowing left result reader.old reader.new }
+{
+    let never = match reader.node(Sort::Policy, left)? {
+        Tag::Deny => {
+            *judged = Judged::new(Tag::Deny, true, Missing::ALL, None);
+            true
+        }
+        Tag::Allow => {
+            *judged = Judged::new(Tag::Allow, false, Missing::ALL, None);
+            false
+        }
+        Tag::Targeted => {
+            let is_plain = is_plain(reader, left - 1)?;
+            let never = never_allows(reader, left - 1, judged)?;
+            let below = judged.missing.with_target(is_plain);
+            *judged = Judged::new(Tag::Targeted, never, below, None);
+            never
+        }
+        Tag::PolicyNot => {
+            let never = never_denies(reader, left - 1, &mut judged.missing)?;
+            *judged = Judged::new(Tag::PolicyNot, never, judged.missing, None);
+            never
+        }
+        Tag::DenyByDefault => {
+            let never = never_allows(reader, left - 1, judged)?;
+            let rule = judged.rule.and(Some(Rule::DefaultOfCertified));
+            *judged = Judged::new(Tag::DenyByDefault, never, judged.missing, rule);
+            never
+        }
         Tag::PolicyAnd => {
-            let first = never_allows(reader, left - 1)?;
-            let second = never_allows(reader, left - 1)?;
-            Ok(first || second) // an and allows only if both sides do
+            let mut second = Judged::default();
+            let first_never = never_allows(reader, left - 1, judged)?;
+            let second_never = never_allows(reader, left - 1, &mut second)?;
+            let never = first_never | second_never; // an and allows only if both sides do
+            let rule = Rule::AndOfCertified.by_both(judged.rule, second.rule);
+            *judged = Judged::new(
+                Tag::PolicyAnd,
+                never,
+                judged.missing.and(second.missing),
+                rule,
+            );
+            never
         }
         Tag::PolicyOr => {
-            let first = never_allows(reader, left - 1)?;
-            let second = never_allows(reader, left - 1)?;
-            Ok(first && second) // an or allows if one side does
+            let mut second = Judged::default();
+            let first_never = never_allows(reader, left - 1, judged)?;
+            let second_never = never_allows(reader, left - 1, &mut second)?;
+            let never = first_never & second_never; // an or allows if one side does
+            let rule = Rule::OrOfCertified.by_both(judged.rule, second.rule);
+            *judged = Judged::new(
+                Tag::PolicyOr,
+                never,
+                judged.missing.and(second.missing),
+                rule,
+            );
+            never
         }
         _ => unreachable!(), // a target's node
-    }
+    };
+    Ok(never)
 }
 
 // Not one function with `never_allows`: that the two call each other is the form that is asked for.
-/// Whether the policy never denies.
+/// Whether the policy never denies; and what is missing in it.
 #[cycle(never_allows_never_denies)]
-#[tactic(auto, using(crate::proofs::Never::never_more))]
-fn never_denies(reader: &mut Reader<'_>, left: usize) -> Result<bool, Fault>
-    ensures { TellsTerm {s = policy} (λ x. x) (never_has denies) left result reader.old reader.new }
+#[tactic(auto, using(crate::proofs::Never::denying_more))]
+fn never_denies(reader: &mut Reader<'_>, left: usize, missing: &mut Missing) -> Result<bool, Fault>
+    ensures { TellsTerm {s = policy} (λ never. (never, missing.new)) denying left result reader.old reader.new }
 {
-    match reader.node(Sort::Policy, left)? {
-        Tag::Deny => Ok(false),
-        Tag::Allow => Ok(true),
-        Tag::Targeted => {
-            reader.term(Sort::Target, left - 1)?;
-            never_denies(reader, left - 1)
+    let never = match reader.node(Sort::Policy, left)? {
+        Tag::Deny => {
+            *missing = Missing::at(Tag::Deny);
+            false
         }
-        Tag::PolicyNot => never_allows(reader, left - 1),
+        Tag::Allow => {
+            *missing = Missing::at(Tag::Allow);
+            true
+        }
+        Tag::Targeted => {
+            let is_plain = is_plain(reader, left - 1)?;
+            let never = never_denies(reader, left - 1, missing)?;
+            *missing = Missing::at(Tag::Targeted).and(missing.with_target(is_plain));
+            never
+        }
+        Tag::PolicyNot => {
+            let mut judged = Judged::default();
+            let never = never_allows(reader, left - 1, &mut judged)?;
+            *missing = Missing::at(Tag::PolicyNot).and(judged.missing);
+            never
+        }
         Tag::DenyByDefault => {
-            never_denies(reader, left - 1)?;
-            Ok(false) // what is undefined comes to deny
+            never_denies(reader, left - 1, missing)?;
+            *missing = Missing::at(Tag::DenyByDefault).and(*missing);
+            false // what is undefined comes to deny
         }
         Tag::PolicyAnd => {
-            let first = never_denies(reader, left - 1)?;
-            let second = never_denies(reader, left - 1)?;
-            Ok(first && second) // an and denies if one side does
+            let mut second = Missing::ALL;
+            let first_never = never_denies(reader, left - 1, missing)?;
+            let second_never = never_denies(reader, left - 1, &mut second)?;
+            *missing = Missing::at(Tag::PolicyAnd).and(missing.and(second));
+            first_never && second_never // an and denies if one side does
         }
         Tag::PolicyOr => {
-            let first = never_denies(reader, left - 1)?;
-            let second = never_denies(reader, left - 1)?;
-            Ok(first || second) // an or denies only if both sides do
+            let mut second = Missing::ALL;
+            let first_never = never_denies(reader, left - 1, missing)?;
+            let second_never = never_denies(reader, left - 1, &mut second)?;
+            *missing = Missing::at(Tag::PolicyOr).and(missing.and(second));
+            first_never || second_never // an or denies only if both sides do
         }
         _ => unreachable!(), // a target's node
-    }
-}
-
-/// The first of the rules 1 to 4 that applies to the policy.
-fn base_rule(reader: &mut Reader<'_>, left: usize) -> Result<Option<Rule>, Fault>
-    ensures { TellsTerm {s = policy} number_of first_of_four left result reader.old reader.new }
-{
-    let mut again = reader.again();
-    if never_allows(reader, left)? {
-        return Ok(Some(Rule::NeverAllows));
-    }
-    Ok(Missing::read(&mut again, Sort::Policy, left)?.rule())
-}
-
-/// The first of all rules that applies to the policy: one of the rules 1 to 4, else by the policies
-/// below it.
-#[tactic(auto, using(crate::proofs::Certified::certificate_laws))]
-fn rule_of(reader: &mut Reader<'_>, left: usize) -> Result<Option<Rule>, Fault>
-    ensures { TellsTerm {s = policy} number_of certificate left result reader.old reader.new }
-{
-    let mut again = reader.again();
-    if let Some(rule) = base_rule(reader, left)? {
-        return Ok(Some(rule));
-    }
-    match again.node(Sort::Policy, left)? {
-        Tag::DenyByDefault => {
-            let body = rule_of(&mut again, left - 1)?;
-            Ok(body.and(Some(Rule::DefaultOfCertified)))
-        }
-        Tag::PolicyAnd => {
-            let first = rule_of(&mut again, left - 1)?;
-            let second = rule_of(&mut again, left - 1)?;
-            Ok(first.and(second).and(Some(Rule::AndOfCertified)))
-        }
-        Tag::PolicyOr => {
-            let first = rule_of(&mut again, left - 1)?;
-            let second = rule_of(&mut again, left - 1)?;
-            Ok(first.and(second).and(Some(Rule::OrOfCertified)))
-        }
-        _ => Ok(None),
-    }
+    };
+    Ok(never)
 }
 
 /// The first rule that applies to the policy of a file.
@@ -126,10 +169,10 @@ pub fn certificate(file: &[u8]) -> Result<Option<Rule>, PolicyError>
     ensures { PolicyGives number_of result (read_map certificate (read_policy file.now)) }
 {
     let mut reader = Reader::open(file)?;
-    let rule = match rule_of(&mut reader, DEEPEST) {
-        Ok(rule) => rule,
-        Err(fault) => return Err(reader.error(fault)),
-    };
+    let mut judged = Judged::default();
+    if let Err(fault) = never_allows(&mut reader, DEEPEST, &mut judged) {
+        return Err(reader.error(fault));
+    }
     reader.finish()?;
-    Ok(rule)
+    Ok(judged.rule)
 }

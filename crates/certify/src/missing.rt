@@ -1,13 +1,11 @@
 //! Which nodes a term has not.
 
 ghost use Rattle.std.specs.Prelude.{◌≡◌};
-ghost use Rattle.files.specs.Reading.{TellsTerm};
-ghost use Rattle.files.specs.Tags.{sort_of};
-ghost use Rattle.certify.specs.Missing.{missing_at, missing_both, missing_in, rule_by_missing};
+ghost use Rattle.certify.specs.Missing.{missing_at, missing_both, missing_with, rule_by_missing};
 ghost use Rattle.certify.specs.Numbers.{number_of};
 
 use crate::rule::Rule;
-use files::{Fault, Reader, Shape, Sort, Tag};
+use files::Tag;
 
 /// Which of the nodes that the rules 2, 3 and 4 ask about are nowhere in a term.
 #[derive(Clone, Copy, Debug, PartialEq, Eq)]
@@ -19,8 +17,17 @@ pub struct Missing {
 }
 
 impl Missing {
+    /// What nothing has.
+    pub const ALL: Missing = Missing {
+        targeted: true,
+        target_not: true,
+        deny_by_default: true,
+        policy_not: true,
+    };
+
     /// What a node alone has not.
-    fn at(tag: Tag) -> Missing
+    #[inline]
+    pub fn at(tag: Tag) -> Missing
         ensures { result ≡ missing_at tag }
     {
         Missing {
@@ -32,7 +39,8 @@ impl Missing {
     }
 
     /// What neither has.
-    fn and(self, other: Missing) -> Missing
+    #[inline]
+    pub fn and(self, other: Missing) -> Missing
         ensures { result ≡ missing_both self other }
     {
         Missing {
@@ -43,28 +51,20 @@ impl Missing {
         }
     }
 
-    /// Reads a term of at most `left` levels.
-    #[tactic(auto, using(crate::proofs::Lacking::missing_more))]
-    pub fn read(reader: &mut Reader<'_>, sort: Sort, left: usize) -> Result<Missing, Fault>
-        ensures { TellsTerm {s = sort_of sort} (λ x. x) missing_in left result reader.old reader.new }
+    /// What neither this has nor a target, which has a not unless it is plain, and no other of these
+    /// nodes.
+    #[inline]
+    pub fn with_target(self, is_plain: bool) -> Missing
+        ensures { result ≡ missing_with is_plain self }
     {
-        let tag = reader.node(sort, left)?;
-        let here = Missing::at(tag);
-        match tag.shape() {
-            Shape::Numbers => {
-                reader.pair()?;
-                Ok(here)
-            }
-            Shape::Leaf => Ok(here),
-            Shape::One => Ok(here.and(Missing::read(reader, sort, left - 1)?)),
-            Shape::Two(first) => {
-                let below = Missing::read(reader, first, left - 1)?;
-                Ok(here.and(below.and(Missing::read(reader, sort, left - 1)?)))
-            }
+        Missing {
+            target_not: is_plain && self.target_not,
+            ..self
         }
     }
 
     /// The first of the rules 2, 3 and 4 that applies to a policy of which this is missing.
+    #[inline]
     pub fn rule(self) -> Option<Rule>
         ensures { number_of result ≡ rule_by_missing self }
     {

@@ -1,7 +1,8 @@
 //! The rules by which a policy's structure shows it resistant.
 
 ghost use Rattle.std.specs.Prelude.{◌≡◌};
-ghost use Rattle.certify.specs.Numbers.{rule_number};
+ghost use Rattle.ptacl.specs.Rules.{given};
+ghost use Rattle.certify.specs.Numbers.{rule_number, number_of};
 
 /// A rule, and what it asks of a policy.
 #[derive(Clone, Copy, Debug, PartialEq, Eq)]
@@ -28,5 +29,13 @@ impl Rule {
         ensures { result ≡ rule_number self }
     {
         self as u8
+    }
+
+    /// This rule, if both of two policies are certified.
+    #[tactic(auto, using(crate::proofs::Given::rule_given))]
+    pub(crate) fn by_both(self, first: Option<Rule>, second: Option<Rule>) -> Option<Rule>
+        ensures { number_of result ≡ given (number_of first) (given (number_of second) (rule_number self)) }
+    {
+        first.and(second).and(Some(self))
     }
 }
