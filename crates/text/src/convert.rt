@@ -6,7 +6,7 @@ ghost use Rattle.files.specs.Reading.{told};
 ghost use Rattle.files.specs.Tags.{sort_of};
 ghost use Rattle.text.specs.Nodes.{end_of};
 ghost use Rattle.text.specs.Converting.{Gives, behind};
-ghost use Rattle.text.specs.Written.{written, room};
+ghost use Rattle.text.specs.Written.{written, room, Keeps};
 
 use crate::end::End;
 use crate::output::Output;
@@ -17,7 +17,8 @@ use files::{Shape, Sort};
 // Sort, depth left and end are three parameters: a struct of them would be taken apart at each
 // call, and built anew for the next, so it is no plainer.
 /// Reads a term of at most `left` levels, which `end` follows, and writes it behind what is written.
-/// There is room for 18 bytes for each node up to the 255th.
+/// There is room for 18 bytes for each node up to the 255th, and what lies past what is written is
+/// kept, on an error too.
 #[tactic(auto, using(crate::proofs::Terms::behind_more, crate::proofs::Terms::behind_refused))]
 pub fn convert<S: Source, T: Sink>(
     source: &mut S,
@@ -34,6 +35,7 @@ pub fn convert<S: Source, T: Sink>(
         (S.at source.old) (S.nodes source.old))) }
     ensures room { OnOk result (4590 ≤ room output.new + 18 * S.nodes source.new) }
     ensures same_bytes { S.bytes source.new ≡ S.bytes source.old }
+    ensures kept { Keeps output.old output.new }
     ensures same_memory { output.new.space.ghost_name ≡ output.old.space.ghost_name }
 {
     let tag = source.next_node(sort, left, end)?;

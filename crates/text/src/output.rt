@@ -43,13 +43,13 @@ impl<'a> Output<'a> {
     }
 
     /// Writes these bytes behind what is written.
-    #[tactic(auto, using(crate::proofs::Written::take_put))]
+    // One by one: they are few, and `copy_from_slice` calls the C library for them.
     pub fn extend(&mut self, bytes: &[u8])
         requires { length bytes.now ≤ room self.old }
         ensures { Appends self.old self.new bytes.now }
     {
-        let len = self.len;
-        files::put(self.space, len, bytes);
-        self.len = len + bytes.len();
+        for &byte in bytes {
+            self.push(byte);
+        }
     }
 }

@@ -82,8 +82,9 @@ impl Sink for Line {
     }
 }
 
+/// Writes a number and the byte behind it, in at most six bytes.
 #[tactic(auto, using(crate::proofs::Decimal::digits_short))]
-fn put_number(output: &mut Output<'_>, number: u16, end: End)
+pub fn put_number(output: &mut Output<'_>, number: u16, end: End)
     requires { 6 ≤ room output.old }
     ensures { AppendsFew 6 output.old output.new (ended (decimal number) (end_of end)) }
 {

@@ -81,7 +81,7 @@ impl<'a> Words<'a> {
     }
 
     /// The bytes from here up to a space, a line feed or the end.
-    fn run(&self) -> &'a [u8]
+    pub fn run(&self) -> &'a [u8]
         ensures run { result.now ≡ run_at self.now.bytes self.now.at }
         ensures inside { self.now.at + length result.now ≤ length self.now.bytes }
     {
@@ -94,7 +94,7 @@ impl<'a> Words<'a> {
 
     /// Goes past a run, and past the byte that is due behind it.
     #[tactic(auto, using(crate::proofs::Runs::past_laws))]
-    fn pass(&mut self, run: &[u8], end: End) -> Result<(), TextError>
+    pub fn pass(&mut self, run: &[u8], end: End) -> Result<(), TextError>
         requires { self.old.at + length run.now ≤ length self.old.bytes }
         ensures gives { Gives text_number text_place (λ _. self.new.at) result
             (past self.old.bytes (end_of end) (self.old.at + length run.now)) }
@@ -113,7 +113,7 @@ impl<'a> Words<'a> {
 
     /// Reads a number that `end` follows.
     #[tactic(auto, unfolding(crate::specs::ReadText::number_at))]
-    fn number(&mut self, end: End) -> Result<u16, TextError>
+    pub fn number(&mut self, end: End) -> Result<u16, TextError>
         ensures gives { Gives text_number text_place (λ number. (number, self.new.at)) result
             (number_at self.old.bytes (end_of end) self.old.at) }
         ensures same { (self.new.bytes ≡ self.old.bytes) × (self.new.nodes ≡ self.old.nodes) }
