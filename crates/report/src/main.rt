@@ -2,6 +2,7 @@
 //! certificate, and what the search finds.
 #![tactic(auto)]
 
+use arrayvec::ArrayVec;
 use files::Pair;
 use sinkheron::Verdict;
 use std::io;
@@ -11,7 +12,7 @@ use std::io::Read;
 // need: a Vec would first be filled with as many zeros, and that can fail.
 
 /// The most bytes that an input may have.
-const LONGEST: u16 = 4096;
+const LONGEST: usize = 4096;
 
 /// A policy that was read, with the list of its pairs, each as name * 65536 + value.
 #[derive(Clone, Copy)]
@@ -21,17 +22,16 @@ struct Listed<'a> {
 }
 
 impl<'a> Listed<'a> {
-    fn lists(self, pair: Pair) -> bool {
-        self.list.iter().any(|number| *number == u32::from(pair))
-    }
-
-    /// The pair of this name with the smallest value that is not on the list. There is one: the
-    /// list has at most 254 pairs.
+    /// The pair of this name with the smallest value that is not on the list. Since the list
+    /// ascends, one pass finds it; it has at most 254 pairs, so no value is the last.
     fn unlisted(self, name: u16) -> Pair {
-        (0..u16::MAX)
-            .map(|value| Pair { name, value })
-            .find(|pair| !self.lists(*pair))
-            .unwrap_or(Pair { name, value: 0 })
+        let mut free = Pair { name, value: 0 };
+        for number in self.list {
+            if *number == u32::from(free) {
+                free.value = free.value.saturating_add(1);
+            }
+        }
+        free
     }
 
     /// Whether it is its name's fresh pair. A value that is not on the list is not named, so the
@@ -95,12 +95,11 @@ fn report(rt: &impl Print, policy: &[u8]) -> io::Result<()> {
 }
 
 fn main(rt: HostRuntime) -> io::Result<()> {
-    let mut input = Vec::new(rt.alloc());
-    // One byte more than is taken, so that an input over the limit shows.
-    rt.reader()
-        .take(u64::from(LONGEST) + 1)
-        .read_to_end(&mut input)?;
-    if input.len() > usize::from(LONGEST) {
+    // One byte more than is taken, so that an input over the limit shows. Not a Vec: a report does
+    // not run out of memory.
+    let mut input = ArrayVec::<u8, 4097>::new();
+    io::copy(&mut rt.reader().take(4097), &mut input)?;
+    if input.len() > LONGEST {
         println!(&rt; "too long")
     } else {
         report(&rt, input.as_slice())
