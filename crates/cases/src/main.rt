@@ -23,6 +23,8 @@ mod subsets;
 mod tally;
 mod term;
 
+ghost use Rattle.std.specs.Prelude.{◌≤◌, length, IfOk};
+
 use generate::Generator;
 use operation::Trial;
 use std::alloc::{AllocError, Global};
@@ -31,8 +33,21 @@ use std::io;
 use std::io::Read;
 use tally::Tally;
 
-/// How many bytes of the fixed cases are read.
-const LONGEST: u64 = 65536;
+/// Reads until the buffer is full or the input ends: how many bytes there are at its front.
+// Not `read_to_end`: it asks for less at a time, and of a packet that does not fit the rest is lost.
+fn read_full(input: &mut impl Read, buffer: &mut [u8]) -> io::Result<usize>
+    ensures { IfOk result (λ n. n ≤ length buffer.new) }
+{
+    let mut done = 0;
+    while done < buffer.len() {
+        let n = input.read(&mut buffer[done..])?;
+        if n == 0 {
+            break;
+        }
+        done += n;
+    }
+    Ok(done)
+}
 
 fn generated(alloc: Global, tally: &mut Tally) -> Result<(), AllocError> {
     let mut generator = Generator::new(alloc);
@@ -76,9 +91,9 @@ fn report(rt: &impl Print, tally: &Tally) -> io::Result<()> {
 
 fn main(rt: HostRuntime) -> io::Result<()> {
     let alloc = rt.alloc();
-    let mut text = Vec::new(alloc);
-    rt.reader().take(LONGEST).read_to_end(&mut text)?;
-    let mut tally = fixed::all(alloc, text.as_slice())?;
+    let mut text = [0; 65536];
+    let len = read_full(&mut rt.reader(), &mut text)?;
+    let mut tally = fixed::all(alloc, &text[..len])?;
     generated(alloc, &mut tally)?;
     report(&rt, &tally)
 }

@@ -31,11 +31,21 @@ impl From<Pair> for u32 {
 
 impl Pair {
     /// The pair of this name with the smallest value below 256 that the list has not.
+    // The values are marked first: to seek each in the list would cost the list for each.
     pub fn unlisted(self, list: &[Pair]) -> Pair {
         let name = self.name;
-        (0..256)
-            .map(|value| Pair { name, value })
-            .find(|pair| !list.contains(pair))
-            .unwrap_or(Pair { name, value: 0 })
+        let mut is_listed = [false; 256];
+        for pair in list {
+            if pair.name == name {
+                if let Some(listed) = is_listed.get_mut(usize::from(pair.value)) {
+                    *listed = true;
+                }
+            }
+        }
+        let free = is_listed.iter().position(|listed| !*listed);
+        let value = free
+            .and_then(|value| u16::try_from(value).ok())
+            .unwrap_or(0);
+        Pair { name, value }
     }
 }
