@@ -1,10 +1,13 @@
 -- What stands where a node is due, by the byte there.
-use Prim.Native.Nat.{ℕ, ◌≤◌, ◌<◌}
+use Prim.Native.Nat.{ℕ, ◌/◌, ◌%◌, ◌^◌, ◌≤◌, ◌<◌}
 use mathlib.Core.Path.{◌≡◌, refl, sym, ap, subst, ◌∙◌}
+use mathlib.Core.Bool.{Bool, not, ◌||◌, true≢false}
 use mathlib.Core.List.{List}
 use native.Mathlib.Omega.{arith}
+use lib.Dec.{eqb}
 use lib.ListN.{length, get_or}
 use Rattle.ptacl.specs.Term.{Sort, target, policy, Node, an_atom, a_deny, an_allow, a_targeted, a_not, a_default, an_and, an_or, tag_of}
+use Rattle.ptacl.proofs.Bools.{below_at}
 use Rattle.ptacl.proofs.Finite.{tag_sort as node_sort}
 use Rattle.files.specs.Refusal.{accepted, refused}
 use Rattle.files.specs.ReadPolicy.{Byte, tag, other, unknown, byte_at, limit_of, head_at}
@@ -14,7 +17,7 @@ use Rattle.files.specs.Tags.{sort_of, tag_named, byte_of, tag_sort}
 use Rattle.files.specs.Reading.{node_in}
 use Rattle.files.specs.declared.tag.Sort.{Sort as SortC}
 use Rattle.files.specs.declared.tag.Tag.{Tag}
-use Rattle.files.proofs.SingleByte.{byte_found, byte_other, known, never_unknown}
+use Rattle.files.proofs.SingleByte.{is_known, byte_found, byte_other, known, never_unknown}
 use Rattle.files.proofs.PolicySteps.{head_cut, head_other, head_unknown, head_limited, head_node, limits_kept}
 
 -- the node of a tag
@@ -51,6 +54,19 @@ tagged (an_and target) = refl
 tagged (an_and policy) = refl
 tagged (an_or target) = refl
 tagged (an_or policy) = refl
+
+-- the bits that the tags number are those of 0x7f001f0000
+by_bits : ℕ → Bool
+by_bits b = not (eqb ((0x7f001f0000 / 2 ^ b) % 2) 1) || is_known (byte_at target b)
+
+pub tag_by_bit : (b : ℕ) → b < 64 → (0x7f001f0000 / 2 ^ b) % 2 ≡ 1 → (t : Tag) × (b ≡ byte_of t)
+unfolding by_bits byte_at
+tag_by_bit b l h = go (byte_at target b) refl
+  where
+    go : (x : Byte target) → byte_at target b ≡ x → (t : Tag) × (b ≡ byte_of t)
+    go (tag n) e = (tag_named n, byte_found _ _ n e ∙ tagged n)
+    go (other n) e = (tag_named n, byte_other _ _ n e ∙ tagged n)
+    go unknown e = let k = rw (h, e) at (below_at by_bits 64 refl b l) in absurd (true≢false (sym k))
 
 same_sort : (r s : SortC) → sort_of r ≡ sort_of s → r ≡ s
 same_sort SortC.Target SortC.Target e = refl

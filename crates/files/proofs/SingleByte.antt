@@ -65,7 +65,7 @@ same_node {s} m n e = go (sym (known m) ∙ ap (byte_at s) e ∙ known n)
 
 -- ---- a node's byte is no unknown one, whichever sort is due
 
-abbrev is_known : {s : Sort} → Byte s → Bool
+abbrev pub is_known : {s : Sort} → Byte s → Bool
 is_known (tag n) = true
 is_known (other n) = true
 is_known unknown = false
