@@ -16,38 +16,46 @@ use files::{Pair, Request, Tag};
 use ptacl::DecisionSet;
 use std::marker::Model;
 
+/// Where the stack of finished subterms stands: the topmost set, and where the others begin in the memory that is lent with it.
+#[derive(Clone, Copy, Debug, PartialEq, Eq)]
+pub struct Stack {
+    pub own: DecisionSet,
+    pub top: usize,
+}
+
 /// The sets that the finished subterms come to, the one that was finished last on top. There are at most 32.
 // Not Copy: it lends memory to write.
 #[derive(Drop)]
-pub struct Stack<'a> {
-    // Apart from the others, which are lent: most nodes replace it, and so it need not pass through memory.
-    own: DecisionSet,
+struct Sets<'a> {
+    // Its topmost set is apart from the others, which are lent: most nodes replace it, and so it need not pass through memory.
+    stack: Stack,
 
-    // The others stand from `top` on; the last is what `own` was before the first.
+    // The others stand from `stack.top` on; the last is what `stack.own` was before the first.
     others: &'a mut [DecisionSet],
-    top: usize,
 }
 
-impl<'a> Model for Stack<'a> {
+impl<'a> Model for Sets<'a> {
     ghost use Rattle.std.specs.Prelude.{ℕ, ◌≡◌, ◌≤◌, ◌-◌, List, ◌∷◌, length, map, take, drop};
 
     ghost Value = { List ℕ };
 
-    ghost view = { λ s. map (λ set. set.code) (take (32 - s.top) (s.own ∷ drop s.top s.others.now)) };
+    ghost view = { λ s. map (λ set. set.code) (take (32 - s.stack.top) (s.stack.own ∷ drop s.stack.top s.others.now)) };
 
-    ghost invariant = { λ s. (s.top ≤ 32) × (length s.others.now ≡ 32) };
+    ghost invariant = { λ s. (s.stack.top ≤ 32) × (length s.others.now ≡ 32) };
 }
 
-impl<'a> Stack<'a> {
+impl<'a> Sets<'a> {
     /// An empty stack over memory for 32 sets.
-    fn new(others: &'a mut [DecisionSet]) -> Stack<'a>
+    fn new(others: &'a mut [DecisionSet]) -> Sets<'a>
         requires { length others.old ≡ 32 }
         ensures { result ≡ [] }
     {
-        Stack {
-            own: DecisionSet::UNDEFINED,
+        Sets {
+            stack: Stack {
+                own: DecisionSet::UNDEFINED,
+                top: 32,
+            },
             others,
-            top: 32,
         }
     }
 
@@ -56,7 +64,7 @@ impl<'a> Stack<'a> {
         requires { 0 < length self.now }
         ensures { result.code ≡ slice_index self.now 0 }
     {
-        self.own
+        self.stack.own
     }
 
     /// The set below the topmost.
@@ -64,7 +72,7 @@ impl<'a> Stack<'a> {
         requires { 1 < length self.now }
         ensures { result.code ≡ slice_index self.now 1 }
     {
-        self.others[self.top]
+        self.others[self.stack.top]
     }
 
     /// A set goes onto the stack.
@@ -72,9 +80,9 @@ impl<'a> Stack<'a> {
         requires { length self.old < 32 }
         ensures { self.new ≡ set.code ∷ self.old }
     {
-        self.top -= 1;
-        self.others[self.top] = self.own;
-        self.own = set;
+        self.stack.top -= 1;
+        self.others[self.stack.top] = self.stack.own;
+        self.stack.own = set;
     }
 
     /// The topmost set gives way to another.
@@ -82,7 +90,7 @@ impl<'a> Stack<'a> {
         requires { 0 < length self.old }
         ensures { self.new ≡ set.code ∷ drop 1 self.old }
     {
-        self.own = set;
+        self.stack.own = set;
     }
 
     /// The two topmost sets give way to one.
@@ -90,8 +98,8 @@ impl<'a> Stack<'a> {
         requires { 1 < length self.old }
         ensures { self.new ≡ set.code ∷ drop 2 self.old }
     {
-        self.own = set;
-        self.top += 1;
+        self.stack.own = set;
+        self.stack.top += 1;
     }
 }
 
@@ -109,7 +117,7 @@ fn tag_at(file: &[u8], at: usize) -> Tag
 }
 
 /// The sets of the terms right below a node come off the stack, and its own goes on.
-fn take(tag: Tag, file: &[u8], at: usize, request: &Request<'_>, stack: &mut Stack<'_>)
+fn take(tag: Tag, file: &[u8], at: usize, request: &Request<'_>, stack: &mut Sets<'_>)
     requires inside { at + bytes_of (tag_shape tag) ≤ length file.now }
     requires below { terms_of (tag_shape tag) ≤ length stack.old }
     requires room { length stack.old < 32 + terms_of (tag_shape tag) }
@@ -132,7 +140,7 @@ fn take(tag: Tag, file: &[u8], at: usize, request: &Request<'_>, stack: &mut Sta
 }
 
 /// One step takes one node, at `at`.
-fn step(file: &[u8], at: usize, request: &Request<'_>, stack: &mut Stack<'_>)
+fn step(file: &[u8], at: usize, request: &Request<'_>, stack: &mut Sets<'_>)
     requires node { Next file.now at }
     requires before { Finished file.now (behind file.now at) request.now stack.old }
     ensures { Finished file.now at request.now stack.new }
@@ -146,7 +154,7 @@ pub fn walk(file: &[u8], places: &[u16], request: &Request<'_>) -> DecisionSet
     ensures { (p : Policy) → IsPolicy file.now p → result.code ≡ code (eval p request.now) }
 {
     let mut others = [DecisionSet::UNDEFINED; 32];
-    let mut stack = Stack::new(&mut others);
+    let mut stack = Sets::new(&mut others);
     for at in places.iter().rev() {
         step(file, usize::from(*at), request, &mut stack);
     }
