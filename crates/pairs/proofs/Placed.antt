@@ -8,16 +8,16 @@ use native.Mathlib.Omega.{arith}
 use lib.Dec.{eqb, ltb}
 use lib.ListN.{length, take, drop, get_or}
 use borrow.Author.Tests.{eq-eqb, ne_eqb}
-use Rattle.std.specs.Prelude.{Some, Result, Ok, Err, IfSome, IfOk, IfErr, slice_get}
+use Rattle.std.specs.Prelude.{Some, Result, Ok, Err, is_ok, IfSome, IfErr, slice_get}
 use Rattle.std.specs.List.{HoldsAt}
 use Rattle.std.specs.List.Sorted.{IsNonDecreasingBy, IsPartitionPoint, IsSearchInRange, IsBinarySearchResult}
 use Rattle.std.specs.Ordering.{nat_cmp, ordering_then, ordering_index}
 use Rattle.std.specs.declared.cmp.Ordering.{Ordering}
 use Rattle.std.specs.declared.cmp.Ordering.TheVariants.{Less, Equal, Greater}
 use Rattle.ptacl.specs.Request.{Pair, same_pair, holds, below, below_head, ascending}
-use Rattle.ptacl.proofs.Bools.{either, and_left, and_right, and_both, or_right, or_swap}
+use Rattle.ptacl.proofs.Bools.{either, clash, refute, and_left, and_right, and_both, or_right, or_swap}
 use Rattle.ptacl.proofs.Requests.{holds_head, found, pair_equal}
-use Rattle.ptacl.proofs.Order.{below_trans, below_else, head_below, cons_ascending}
+use Rattle.ptacl.proofs.Order.{below_trans, below_apart, below_else, head_below, cons_ascending}
 use Rattle.ptacl.specs.Pairs.{packed}
 use Rattle.files.proofs.Numbers.{below_packed}
 use Rattle.files.specs.Tags.{pair_of}
@@ -154,6 +154,18 @@ module _ (p : PairC) where
       → below (pair_of l) (pair_of p) ≡ true → PutIn (pair_of p) (map pair_of xs) (map pair_of (xs ++ p ∷ []))
   above_last xs a e b = put_last xs _ refl a (subst (λ o. IfSome o (λ l. below (pair_of l) (pair_of p) ≡ true)) e b)
 
+  -- it was not there before, for in an ascending list it stands once
+  put_anew : (xs : List PairC) (i : ℕ) → ascending (map pair_of (with_pair xs i)) ≡ true → holds (map pair_of xs) (pair_of p) ≡ false
+  put_anew [] i a = refl
+  put_anew (y ∷ xs) zero a =
+      refute (λ k. below_apart (pair_of p) (pair_of p) (head_below (pair_of p) (map pair_of (y ∷ xs)) a (pair_of p) k) refl)
+  put_anew (y ∷ xs) (suc i) a =
+      let new = map pair_of (with_pair xs i) in
+      let there : holds new (pair_of p) ≡ true = put_holds xs i (pair_of p) ∙ holds_head (pair_of p) (map pair_of xs) in
+      let under = head_below (pair_of y) new a (pair_of p) there in
+      refute (found (pair_of y) (map pair_of xs) (pair_of p) (λ e. below_apart (pair_of y) (pair_of p) under e)
+      (λ k. clash k (put_anew xs i (and_right (below_head (pair_of y) new) a))))
+
   -- what the search found: the pair itself, or the place that parts those below it from those above
   module _ (xs : List PairC) (a : ascending (map pair_of xs) ≡ true) where
     put_there : (i : ℕ) → (IsNonDecreasingBy (λ y. ordering_index (stands p y)) xs → IsPartitionPoint (λ y. stands p y ≡ Less) (λ y. stands p y ≡ Greater) xs i)
@@ -173,10 +185,12 @@ module _ (p : PairC) where
         subst (λ z. holds (map pair_of xs) z ≡ true) same (at_held xs i p l)
 
     pub record Sought (r : Result ℕ ℕ) : Type 0 where
-      pub there : IfOk r (λ i. holds (map pair_of xs) (pair_of p) ≡ true)
+      pub there : is_ok r ≡ holds (map pair_of xs) (pair_of p)
       pub bound : IfErr r (λ i. i ≤ length xs)
       pub place : IfErr r (λ i. PutIn (pair_of p) (map pair_of xs) (map pair_of (with_pair xs i)))
 
     pub sought : (r : Result ℕ ℕ) → IsSearchInRange r (length xs) → IsBinarySearchResult (stands p) xs r → Sought r
-    sought (Ok i) l e = record { there = is_there i l e; bound = tt; place = tt }
-    sought (Err i) l e = record { there = tt; bound = l; place = put_there i e }
+    sought (Ok i) l e = record { there = sym (is_there i l e); bound = tt; place = tt }
+    sought (Err i) l e =
+        let put = put_there i e in
+        record { there = sym (put_anew xs i put.ordered); bound = l; place = put }

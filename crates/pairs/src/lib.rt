@@ -1,7 +1,7 @@
 //! The pairs of a policy, and the normal form of a request.
 #![tactic(auto)]
 
-ghost use Rattle.std.specs.Prelude.{◌≡◌, ◌==◌, ◌+◌, ◌<◌, ◌≤◌, true, not, ◌&&◌, List, [], ◌∷◌, ◌++◌, map, length, insert, IfOk, IfErr, IsTrue};
+ghost use Rattle.std.specs.Prelude.{◌≡◌, ◌==◌, ◌+◌, ◌<◌, ◌≤◌, true, not, ◌&&◌, List, [], ◌∷◌, ◌++◌, map, length, insert, is_ok, IfErr, IsTrue};
 ghost use Rattle.std.specs.Ordering.{nat_cmp, ordering_then};
 ghost use Rattle.arrayvec.specs.ArrayVec.{array_vec_len};
 ghost use Rattle.ptacl.specs.Request.{holds, below, ascending};
@@ -28,7 +28,7 @@ fn compare(pair: Pair, other: Pair) -> Ordering
 #[inline(always)]
 fn place_of(pairs: &[Pair], pair: Pair) -> Result<usize, usize>
     requires { ascending (map pair_of pairs.now) ≡ true }
-    ensures there { IfOk result (λ i. holds (map pair_of pairs.now) (pair_of pair) ≡ true) }
+    ensures there { is_ok result ≡ holds (map pair_of pairs.now) (pair_of pair) }
     ensures bound { IfErr result (λ i. i ≤ length pairs.now) }
     ensures place { IfErr result (λ i. PutIn (pair_of pair) (map pair_of pairs.now)
         (map pair_of (insert pairs.now i pair))) }
@@ -134,7 +134,7 @@ impl<'a> NamedPairs<'a> {
     fn has(&self, pair: Pair) -> bool
         ensures { result ≡ holds (map pair_of self.now.pairs.now) (pair_of pair) }
     {
-        self.pairs.contains(&pair)
+        place_of(self.pairs, pair).is_ok()
     }
 
     /// The fresh pair of a name: since they ascend, one pass finds the first value that is free.
