@@ -1,7 +1,7 @@
 -- What the certifier's two walks tell of a policy, by its node and by what they tell of the policies below; below a not, the other walk.
 use Prim.Native.Nat.{ℕ, ◌+◌, ◌-◌}
 use mathlib.Core.Path.{◌≡◌, refl, ap}
-use mathlib.Core.Bool.{Bool, true, false, ◌&&◌, ◌||◌}
+use mathlib.Core.Bool.{Bool, true, false}
 use mathlib.Core.List.{List}
 use Rattle.ptacl.specs.Term.{target, policy}
 use Rattle.ptacl.specs.Rules.{allows, denies, never, plain, given}
@@ -11,7 +11,7 @@ use Rattle.files.specs.Reading.{◌>>=◌, node_in, told}
 use Rattle.files.specs.declared.tag.Tag.{Tag}
 use Rattle.certify.specs.declared.missing.Missing.{Missing}
 use Rattle.certify.specs.Missing.{missing_in, missing_at, missing_both, missing_with}
-use Rattle.certify.specs.Judged.{allowing, denying, decided}
+use Rattle.certify.specs.Judged.{allowing, denying, decided, allowing_two, never_denies_two}
 use Rattle.certify.proofs.Policies.{Makes, policy_below, Made, policy_more}
 use Rattle.certify.proofs.Plain.{target_lacks}
 
@@ -23,10 +23,6 @@ all = record { targeted = true; target_not = true; deny_by_default = true; polic
 abbrev allowing_leaf : Tag → Bool × Missing × ℕ
 allowing_leaf Tag.Deny = decided Tag.Deny true all 0
 allowing_leaf tag = decided Tag.Allow false all 0
-
-abbrev allowing_two : Tag → Bool × Missing × ℕ → Bool × Missing × ℕ → Bool × Missing × ℕ
-allowing_two Tag.PolicyAnd x y = decided Tag.PolicyAnd (x.0 || y.0) (missing_both x.1 y.1) (given x.2 (given y.2 6))
-allowing_two tag x y = decided Tag.PolicyOr (x.0 && y.0) (missing_both x.1 y.1) (given x.2 (given y.2 7))
 
 abbrev allowing_makes : Makes (Bool × Missing × ℕ) (Bool × Missing) Bool
 allowing_makes = record {
@@ -62,8 +58,7 @@ denying_leaf Tag.Allow = (true, missing_at Tag.Allow)
 denying_leaf tag = (false, missing_at Tag.Deny)
 
 abbrev denying_two : Tag → Bool × Missing → Bool × Missing → Bool × Missing
-denying_two Tag.PolicyAnd x y = (x.0 && y.0, missing_both (missing_at Tag.PolicyAnd) (missing_both x.1 y.1))
-denying_two tag x y = (x.0 || y.0, missing_both (missing_at Tag.PolicyOr) (missing_both x.1 y.1))
+denying_two tag x y = (never_denies_two tag x.0 y.0, missing_both (missing_at tag) (missing_both x.1 y.1))
 
 abbrev denying_makes : Makes (Bool × Missing) (Bool × Missing × ℕ) Bool
 denying_makes = record {

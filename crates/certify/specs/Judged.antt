@@ -1,7 +1,7 @@
 -- What the certifier's walks tell of a policy.
-use Rattle.std.specs.Prelude.{ℕ, Bool, ◌&&◌, cond}
+use Rattle.std.specs.Prelude.{ℕ, Bool, ◌&&◌, ◌||◌, cond}
 use Rattle.ptacl.specs.Term.{Policy}
-use Rattle.ptacl.specs.Rules.{allows, denies, never, certificate}
+use Rattle.ptacl.specs.Rules.{allows, denies, never, certificate, given}
 use Rattle.files.specs.declared.tag.Tag.{Tag}
 use Rattle.certify.specs.declared.missing.Missing.{Missing}
 use Rattle.certify.specs.declared.judged.Judged.{Judged}
@@ -25,3 +25,13 @@ abbrev pub decided : Tag → Bool → Missing → ℕ → Bool × Missing × ℕ
 decided tag n below k =
     let m = missing_both (missing_at tag) below in
     (n, m, cond n 1 (cond m.targeted 2 (cond (m.target_not && m.deny_by_default) 3 (cond (m.target_not && m.policy_not) 4 k))))
+
+-- of an and, or else an or, by what is told of both sides
+abbrev pub allowing_two : Tag → Bool × Missing × ℕ → Bool × Missing × ℕ → Bool × Missing × ℕ
+allowing_two Tag.PolicyAnd x y = decided Tag.PolicyAnd (x.0 || y.0) (missing_both x.1 y.1) (given x.2 (given y.2 6))
+allowing_two tag x y = decided tag (x.0 && y.0) (missing_both x.1 y.1) (given x.2 (given y.2 7))
+
+-- whether it never denies, by whether both sides never do
+abbrev pub never_denies_two : Tag → Bool → Bool → Bool
+never_denies_two Tag.PolicyAnd x y = x && y
+never_denies_two tag x y = x || y

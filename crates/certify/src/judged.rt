@@ -18,7 +18,8 @@ pub struct Judged {
 impl Judged {
     /// Of a node, by whether it never allows, what is missing below it, and the rule that applies by
     /// the policies below it.
-    #[inline]
+    // Always inlined: most callers know the node.
+    #[inline(always)]
     pub fn new(tag: Tag, never: bool, below: Missing, rule: Option<Rule>) -> Judged
         ensures { seen never result ≡ decided tag never below (number_of rule) }
     {

@@ -12,7 +12,7 @@ ghost use Rattle.ptacl.specs.Rules.{plain, certificate};
 ghost use Rattle.files.specs.Faults.{PolicyGives};
 ghost use Rattle.files.specs.ReadPolicy.{read_policy};
 ghost use Rattle.files.specs.Reading.{TellsTerm, read_map};
-ghost use Rattle.certify.specs.Judged.{allowing, denying, seen};
+ghost use Rattle.certify.specs.Judged.{allowing, denying, seen, allowing_two, never_denies_two};
 ghost use Rattle.certify.specs.Numbers.{number_of};
 
 use files::{DEEPEST, Fault, PolicyError, Reader, Sort, Tag};
@@ -44,6 +44,40 @@ fn is_plain(reader: &mut Reader<'_>, left: usize) -> Result<bool, Fault>
     }
 }
 
+/// Whether the and, or else the or, of two policies never allows; and what else the rules ask of it, in
+/// place of what they ask of its first side.
+#[inline(always)]
+fn never_allows_two(
+    tag: Tag,
+    first_never: bool,
+    judged: &mut Judged,
+    second_never: bool,
+    second: Judged,
+) -> bool
+    ensures { seen result judged.new ≡ allowing_two tag (seen first_never judged.old) (seen second_never second) }
+{
+    let (never, rule) = match tag {
+        // An and allows only if both sides do.
+        Tag::PolicyAnd => (first_never | second_never, Rule::AndOfCertified),
+        // An or allows if one side does.
+        _ => (first_never & second_never, Rule::OrOfCertified),
+    };
+    let rule = rule.by_both(judged.rule, second.rule);
+    *judged = Judged::new(tag, never, judged.missing.and(second.missing), rule);
+    never
+}
+
+/// Whether the and, or else the or, of two policies never denies.
+#[inline]
+fn never_denies_two(tag: Tag, first_never: bool, second_never: bool) -> bool
+    ensures { result ≡ never_denies_two tag first_never second_never }
+{
+    match tag {
+        Tag::PolicyAnd => first_never && second_never, // an and denies if one side does
+        _ => first_never || second_never, // an or denies only if both sides do
+    }
+}
+
 // The depth left falls from call to call and is not the reader's, so it stays beside it. What else
 // the rules ask is lent, not returned: it would be copied at every node.
 /// Whether the policy never allows; and what else the rules ask of it, with the first that applies.
@@ -53,13 +87,10 @@ fn never_allows(reader: &mut Reader<'_>, left: usize, judged: &mut Judged) -> Re
     ensures { TellsTerm {s = policy} (λ never. seen never judged.new) allowing left result reader.old reader.new }
 {
     let never = match reader.node(Sort::Policy, left)? {
-        Tag::Deny => {
-            *judged = Judged::new(Tag::Deny, true, Missing::ALL, None);
-            true
-        }
-        Tag::Allow => {
-            *judged = Judged::new(Tag::Allow, false, Missing::ALL, None);
-            false
+        tag @ (Tag::Deny | Tag::Allow) => {
+            let never = tag == Tag::Deny;
+            *judged = Judged::new(tag, never, Missing::ALL, None);
+            never
         }
         Tag::Targeted => {
             let is_plain = is_plain(reader, left - 1)?;
@@ -79,33 +110,11 @@ fn never_allows(reader: &mut Reader<'_>, left: usize, judged: &mut Judged) -> Re
             *judged = Judged::new(Tag::DenyByDefault, never, judged.missing, rule);
             never
         }
-        Tag::PolicyAnd => {
+        tag @ (Tag::PolicyAnd | Tag::PolicyOr) => {
             let mut second = Judged::default();
             let first_never = never_allows(reader, left - 1, judged)?;
             let second_never = never_allows(reader, left - 1, &mut second)?;
-            let never = first_never | second_never; // an and allows only if both sides do
-            let rule = Rule::AndOfCertified.by_both(judged.rule, second.rule);
-            *judged = Judged::new(
-                Tag::PolicyAnd,
-                never,
-                judged.missing.and(second.missing),
-                rule,
-            );
-            never
-        }
-        Tag::PolicyOr => {
-            let mut second = Judged::default();
-            let first_never = never_allows(reader, left - 1, judged)?;
-            let second_never = never_allows(reader, left - 1, &mut second)?;
-            let never = first_never & second_never; // an or allows if one side does
-            let rule = Rule::OrOfCertified.by_both(judged.rule, second.rule);
-            *judged = Judged::new(
-                Tag::PolicyOr,
-                never,
-                judged.missing.and(second.missing),
-                rule,
-            );
-            never
+            never_allows_two(tag, first_never, judged, second_never, second)
         }
         _ => unreachable!(), // a target's node
     };
@@ -120,13 +129,9 @@ fn never_denies(reader: &mut Reader<'_>, left: usize, missing: &mut Missing) -> 
     ensures { TellsTerm {s = policy} (λ never. (never, missing.new)) denying left result reader.old reader.new }
 {
     let never = match reader.node(Sort::Policy, left)? {
-        Tag::Deny => {
-            *missing = Missing::at(Tag::Deny);
-            false
-        }
-        Tag::Allow => {
-            *missing = Missing::at(Tag::Allow);
-            true
+        tag @ (Tag::Deny | Tag::Allow) => {
+            *missing = Missing::at(tag);
+            tag == Tag::Allow
         }
         Tag::Targeted => {
             let is_plain = is_plain(reader, left - 1)?;
@@ -145,19 +150,12 @@ fn never_denies(reader: &mut Reader<'_>, left: usize, missing: &mut Missing) -> 
             *missing = Missing::at(Tag::DenyByDefault).and(*missing);
             false // what is undefined comes to deny
         }
-        Tag::PolicyAnd => {
+        tag @ (Tag::PolicyAnd | Tag::PolicyOr) => {
             let mut second = Missing::ALL;
             let first_never = never_denies(reader, left - 1, missing)?;
             let second_never = never_denies(reader, left - 1, &mut second)?;
-            *missing = Missing::at(Tag::PolicyAnd).and(missing.and(second));
-            first_never && second_never // an and denies if one side does
-        }
-        Tag::PolicyOr => {
-            let mut second = Missing::ALL;
-            let first_never = never_denies(reader, left - 1, missing)?;
-            let second_never = never_denies(reader, left - 1, &mut second)?;
-            *missing = Missing::at(Tag::PolicyOr).and(missing.and(second));
-            first_never || second_never // an or denies only if both sides do
+            *missing = Missing::at(tag).and(missing.and(second));
+            never_denies_two(tag, first_never, second_never)
         }
         _ => unreachable!(), // a target's node
     };
