@@ -1,18 +1,21 @@
 -- Decimal: a number's digits do not end a run, are few, and are read as the number; and a run that is read as a number is its digits.
-use Prim.Native.Nat.{ℕ, zero, suc, ◌+◌, ◌*◌, ◌-◌, ◌/◌, ◌%◌, ◌<◌, ◌≤◌}
+use Prim.Native.Nat.{ℕ, zero, suc, ◌+◌, ◌*◌, ◌-◌, ◌/◌, ◌%◌, ◌^◌, ◌<◌, ◌≤◌}
 use mathlib.Core.Path.{◌≡◌, refl, sym, ap, subst, ◌∙◌}
 use mathlib.Core.Bool.{Bool, true, false, cond}
 use mathlib.Core.List.{List, [], ◌∷◌, ◌++◌}
 use native.Mathlib.Omega.{arith}
 use lib.Dec.{ltb}
-use lib.ListN.{length, length-append}
+use lib.ListN.{length, take, drop, length-drop, length-append}
+use lib.Seq.{take_all}
 use borrow.Author.Tests.{ltb-true, lt-ltb, le-ltb, ne_eqb}
 use Rattle.std.specs.Fmt.{decimal as printed}
 use Rattle.std.specs.Str.{IsUtf8}
 use Rattle.std.specs.Str.Parse.{ParsesUnsigned}
 use Rattle.std.specs.Prelude.{Result, Ok, Err, Some, None, MatchResult}
 use Rattle.std.specs.Result.{result_ok}
-use Rattle.std.proofs.lemmas.Fmt.{AppendsLastDigit, decimal_from_appends, length-decimal-le, parse-decimal, IsAscii-decimal}
+use Rattle.std.proofs.lemmas.Fmt.{decimal_by_steps, length-decimal-le, parse-decimal, IsAscii-decimal}
+use Rattle.std.proofs.lemmas.List.{drop-append-le}
+use Rattle.std.proofs.Math.ListN.{drop_of_length-le}
 use Rattle.std.proofs.lemmas.Str.{IsUtf8-from_ascii}
 use Rattle.ptacl.proofs.Bools.{either, and_left, and_right}
 use Rattle.text.specs.Line.{digits, decimal}
@@ -80,12 +83,31 @@ number_told w e = record {
 
 -- ---- as the library prints and parses it
 
-by_last : AppendsLastDigit digits
+-- the last digits are the last of what is printed
+digits_printed : (k n : ℕ) → n < 2 ^ 64 → drop (length (printed n) - k) (printed n) ≡ digits k n
 unfolding digits
-by_last = record { one = λ k n h. rw (lt-ltb n 10 h); more = λ k n h. rw (le-ltb n 10 h) }
+digits_printed k n h = decimal_by_steps (λ m ds. (j : ℕ) → drop (length ds - j) ds ≡ digits j m) one more n h k
+  where
+    one : (m : ℕ) → m < 10 → (j : ℕ) → drop (1 - j) ((48 + m) ∷ []) ≡ digits j m
+    one m l zero = refl
+    one m l (suc j) = let z : 1 - suc j ≡ 0 = omega arith in rw (z, lt-ltb m 10 l)
+
+    more : (m : ℕ) (ds : List ℕ) → 10 ≤ m → ((j : ℕ) → drop (length ds - j) ds ≡ digits j (m / 10))
+        → (j : ℕ) → drop (length (ds ++ ((48 + m % 10) ∷ [])) - j) (ds ++ ((48 + m % 10) ∷ [])) ≡ digits j m
+    more m ds l h zero = drop_of_length-le (ds ++ ((48 + m % 10) ∷ [])) (omega arith)
+    more m ds l h (suc j) =
+        let last = (48 + m % 10) ∷ [] in
+        let z : length (ds ++ last) - suc j ≡ length ds - j = omega (arith, length-append ds last) in
+        rw (z, le-ltb m 10 l) (drop-append-le (length ds - j) ds last (omega arith) ∙ ap (λ w. w ++ last) (h j))
+
+-- so of a part of it, as it is lent
+pub digits_cut : (k n d : ℕ) (s : List ℕ) → n < 2 ^ 64 → s ≡ printed n → d ≡ length s - k → take (length s - d) (drop d s) ≡ digits k n
+digits_cut k n d s h e f = take_all (length s - d) (drop d s) (omega (arith, length-drop d s)) ∙ rw (f, e) (digits_printed k n h)
 
 pub decimal_printed : (n : ℕ) → n < 65536 → printed n ≡ decimal n
-decimal_printed n h = sym (decimal_from_appends digits by_last 5 n (omega arith) (length-decimal-le 5 n (omega arith) (omega arith) (omega arith)))
+decimal_printed n h =
+    let z : length (printed n) - 5 ≡ 0 = omega (arith, length-decimal-le 5 n (omega arith) (omega arith) (omega arith)) in
+    rw z at (digits_printed 5 n (omega arith))
 
 -- what holds of a result's value, or of its error, by the Option that is made of it
 module _ {A E : Type 0} (P : A → Type 0) (Q : E → Type 0) where

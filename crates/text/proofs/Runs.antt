@@ -1,13 +1,13 @@
 -- Runs of bytes: a word is the run before a space or a line feed; a run is compared byte by byte; what is due behind it.
 use Prim.Native.Nat.{ℕ, ◌+◌, ◌-◌, ◌≤◌, ◌<◌}
-use mathlib.Core.Path.{◌≡◌, refl, sym, ap, ◌∙◌}
+use mathlib.Core.Path.{◌≡◌, refl, sym, ap, subst, ◌∙◌}
 use mathlib.Core.Bool.{Bool, true, false, cond, not, ◌&&◌}
 use mathlib.Core.List.{List, [], ◌∷◌, ◌++◌}
 use native.Mathlib.Omega.{arith}
 use lib.Dec.{eqb, ltb}
 use lib.ListN.{length, take, drop, get_or, length-drop}
 use lib.Seq.{drop-drop, take_at, take_all}
-use borrow.Author.Tests.{ltb-true, ltb-false, eqb-true, lt-ltb, le-ltb, eq-eqb, ne_eqb}
+use borrow.Author.Tests.{ltb-true, ltb-false, eqb-true, lt-ltb, eq-eqb}
 use Rattle.std.specs.Prelude.{Some, None}
 use Rattle.std.specs.List.{position, position_or_len}
 use Rattle.std.proofs.lemmas.List.Recursion.{is_position_or_len}
@@ -117,22 +117,6 @@ pub past_reads : {b : List ℕ} {at : ℕ} (e : End) → At b at (byte_of e ∷ 
 unfolding past
 past_reads {b} {at} e h = simp (lt-ltb at (length b) (room h), eq-eqb (get_or b at 0) (byte_of e) (head h))
 
-module _ (b : List ℕ) (e : End) (at : ℕ) where
-  pub past_ends : length b ≤ at → at ≤ length b → past b e at ≡ refused 53 at
-  unfolding past
-  past_ends h l = let n : length b ≡ at = omega arith in rw (le-ltb at (length b) h, n)
-
-  module _ (i : at < length b) where
-    pub past_other : (get_or b at 0 ≡ byte_of e → ⊥) → past b e at ≡ refused (another e) at
-    unfolding past
-    past_other d = rw (lt-ltb at (length b) i, ne_eqb _ _ d)
-
-    pub past_on : get_or b at 0 ≡ byte_of e → past b e at ≡ accepted (at + 1)
-    unfolding past
-    past_on d = rw (lt-ltb at (length b) i, eq-eqb _ _ d)
-
-pub ruleset past_laws = (past_ends, past_other, past_on)
-
 pub record Passed (b : List ℕ) (e : End) (at next : ℕ) : Type 0 where
   pub bytes : drop at b ≡ byte_of e ∷ drop next b
   pub inside : next ≤ length b
@@ -176,3 +160,7 @@ past_told b e at = go (ltb at (length b)) (eqb (get_or b at 0) (byte_of e)) e re
     go false c f p q =
         let i = ltb-false at (length b) p in
         off (omega arith) (omega arith) (omega arith) (omega arith)
+
+-- so the place behind lies in the text
+pub past_inside : (b : List ℕ) (e : End) (at : ℕ) {next : ℕ} → past b e at ≡ accepted next → next ≤ length b
+past_inside b e at h = (subst (ToldPast b e at) h (past_told b e at)).inside

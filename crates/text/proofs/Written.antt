@@ -16,7 +16,7 @@ drop_more m n s t h e =
 pub keeps_twice : {l m n : ℕ} (a b c : List ℕ) → (l ≤ m) × (drop m b ≡ drop m a) → (m ≤ n) × (drop n c ≡ drop n b) → (l ≤ n) × (drop n c ≡ drop n a)
 keeps_twice {m = m} {n} a b c f g = (omega (arith, f.0, g.0), g.1 ∙ drop_more m n b a g.0 f.1)
 
--- twice, in at most so many bytes
-pub appends_twice : (most : ℕ) (a b c : Output) (xs ys : List ℕ) → length xs + length ys ≤ most → Appends a b xs → Appends b c ys → AppendsFew most a c (xs ++ ys)
-appends_twice most a b c xs ys h f g =
-    (g.0 ∙ ap (λ w. w ++ ys) f.0 ∙ append_assoc _ xs ys, omega (arith, f.1, g.1, h), g.2 ∙ f.2, keeps_twice _ _ _ f.3 g.3)
+-- twice, the first time in at most so many bytes
+pub appends_twice : (most : ℕ) (a b c : Output) (xs ys : List ℕ) → AppendsFew most a b xs → Appends b c ys → AppendsFew (most + length ys) a c (xs ++ ys)
+appends_twice most a b c xs ys f g =
+    (g.0 ∙ ap (λ w. w ++ ys) f.0 ∙ append_assoc _ xs ys, omega (arith, f.1, g.1), g.2 ∙ f.2, keeps_twice _ _ _ f.3 g.3)

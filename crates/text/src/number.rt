@@ -1,17 +1,26 @@
 //! Numbers in decimal.
 
 ghost use Rattle.std.specs.Prelude.{◌≡◌, IfSome, IfNone, true, false};
-ghost use Rattle.text.specs.Line.{decimal};
+ghost use Rattle.text.specs.Line as L;
 ghost use Rattle.text.specs.ReadText.{is_number, value};
 
 use itoa::Buffer;
 
-/// A number as it is written: without leading zeros.
-#[tactic(auto, using(crate::proofs::Decimal::decimal_printed))]
-pub fn decimal(number: u16, buffer: &mut Buffer) -> &[u8]
-    ensures { result.now ≡ decimal number }
+/// The last `most` digits of a number as it is written, without leading zeros: all of them, where it
+/// has no more.
+#[tactic(auto, using(crate::proofs::Decimal::digits_cut))]
+pub fn digits(number: u32, most: usize, buffer: &mut Buffer) -> &[u8]
+    ensures { result.now ≡ L.digits most number }
 {
-    buffer.format(number).as_bytes()
+    let all = buffer.format(number).as_bytes();
+    &all[all.len().saturating_sub(most)..]
+}
+
+/// A number as it is written: without leading zeros.
+pub fn decimal(number: u16, buffer: &mut Buffer) -> &[u8]
+    ensures { result.now ≡ L.decimal number }
+{
+    digits(u32::from(number), 5, buffer)
 }
 
 /// The number up to 65,535 that is written so.

@@ -3,7 +3,7 @@
 ghost use Rattle.std.specs.Prelude.{◌≡◌, ◌≤◌, refl};
 ghost use Rattle.files.specs.Prefix.{Form};
 ghost use Rattle.files.specs.Encoding.{bytes};
-ghost use Rattle.text.specs.Line.{End as Due, space, words, decimal, ended};
+ghost use Rattle.text.specs.Line.{End as Due, space, words, digits, decimal, ended};
 ghost use Rattle.text.specs.Nodes.{end_of, marked};
 ghost use Rattle.text.specs.Written.{AppendsFew, room};
 
@@ -77,17 +77,25 @@ impl Sink for Line {
     }
 
     fn put_pair(output: &mut Output<'_>, pair: Pair, end: End) {
-        put_number(output, pair.name, End::Space);
-        put_number(output, pair.value, end);
+        put_number(output, u32::from(pair.name), End::Space);
+        put_number(output, u32::from(pair.value), end);
     }
 }
 
-/// Writes a number and the byte behind it, in at most six bytes.
+/// Writes at most so many digits of a number, the last of it, without leading zeros.
 #[tactic(auto, using(crate::proofs::Decimal::digits_short))]
-pub fn put_number(output: &mut Output<'_>, number: u16, end: End)
+pub fn put_digits(output: &mut Output<'_>, number: u32, most: usize)
+    requires { most ≤ room output.old }
+    ensures { AppendsFew most output.old output.new (digits most number) }
+{
+    output.extend(number::digits(number, most, &mut itoa::Buffer::new()));
+}
+
+/// Writes a number, its last five digits at most, and the byte behind it.
+pub fn put_number(output: &mut Output<'_>, number: u32, end: End)
     requires { 6 ≤ room output.old }
     ensures { AppendsFew 6 output.old output.new (ended (decimal number) (end_of end)) }
 {
-    output.extend(number::decimal(number, &mut itoa::Buffer::new()));
+    put_digits(output, number, 5);
     output.push(end.byte());
 }

@@ -5,12 +5,13 @@ ghost use Rattle.files.specs.Reading.{Place};
 ghost use Rattle.files.specs.Faults.{fault_number};
 ghost use Rattle.text.specs.Line.{End as Due};
 ghost use Rattle.std.specs.List.{position};
-ghost use Rattle.text.specs.ReadText.{ends, run_at, past, number_at, in_words};
+ghost use Rattle.text.specs.ReadText as R;
+ghost use Rattle.text.specs.ReadText.{ends, run_at, number_at, in_words};
 ghost use Rattle.text.specs.Nodes.{end_of};
 ghost use Rattle.text.specs.Faults.{text_fault_number, text_number, text_place, ended_at};
 ghost use Rattle.text.specs.Converting.{Gives};
 
-use crate::end::End;
+use crate::end::{End, past};
 use crate::fault::{TextError, TextFault};
 use crate::source::Source;
 use crate::{keyword, number};
@@ -51,11 +52,15 @@ impl<'a> Words<'a> {
     pub fn new(text: &'a [u8]) -> Words<'a>
         ensures { result ≡ record { bytes = text.now; at = 0; nodes = 0 } }
     {
-        Words {
-            text,
-            at: 0,
-            nodes: 0,
-        }
+        Words::at(text, 0)
+    }
+
+    /// Stands at a place of a text, its end at most, and counts nodes from there.
+    pub fn at(text: &'a [u8], at: usize) -> Words<'a>
+        requires { at ≤ length text.now }
+        ensures { result ≡ record { bytes = text.now; at = at; nodes = 0 } }
+    {
+        Words { text, at, nodes: 0 }
     }
 
     /// The error of a fault that stands here.
@@ -93,22 +98,15 @@ impl<'a> Words<'a> {
     }
 
     /// Goes past a run, and past the byte that is due behind it.
-    #[tactic(auto, using(crate::proofs::Runs::past_laws))]
+    #[tactic(auto, using(crate::proofs::Runs::past_inside))]
     pub fn pass(&mut self, run: &[u8], end: End) -> Result<(), TextError>
         requires { self.old.at + length run.now ≤ length self.old.bytes }
         ensures gives { Gives text_number text_place (λ _. self.new.at) result
-            (past self.old.bytes (end_of end) (self.old.at + length run.now)) }
+            (R.past self.old.bytes (end_of end) (self.old.at + length run.now)) }
         ensures same { (self.new.bytes ≡ self.old.bytes) × (self.new.nodes ≡ self.old.nodes) }
     {
-        self.at += run.len();
-        match self.text.get(self.at) {
-            None => Err(self.fault(TextFault::Ends)),
-            Some(&byte) if byte == end.byte() => {
-                self.at += 1;
-                Ok(())
-            }
-            Some(_) => Err(self.fault(end.fault())),
-        }
+        self.at = past(self.text, end, self.at + run.len())?;
+        Ok(())
     }
 
     /// Reads a number that `end` follows.
