@@ -1,7 +1,5 @@
 //! An answer in the operations' numbers, whoever gives it.
 
-use std::alloc::{AllocError, AllocFailed};
-
 /// A refusal's number and its place in the file or text.
 // A number, as the lines of the fixed cases give it, and no enum: the library's own is what is put
 // to the test, and another would only be turned into numbers and back.
@@ -34,36 +32,8 @@ pub enum Reply {
 
 pub type Answer = Result<Reply, Refused>;
 
-/// Why the evaluator gives no reply.
-// An error of its own beside `Result`, with `From` for `?`.
-#[derive(Clone, Copy)]
-pub enum Failure {
-    Refused(Refused),
-    /// The program has no memory left, which is no answer.
-    Memory,
-}
-
-impl From<Refused> for Failure {
-    fn from(refused: Refused) -> Failure {
-        Failure::Refused(refused)
-    }
-}
-
-impl From<AllocError> for Failure {
-    fn from(_error: AllocError) -> Failure {
-        Failure::Memory
-    }
-}
-
-impl<T: Drop> From<AllocFailed<T>> for Failure {
-    fn from(_error: AllocFailed<T>) -> Failure {
-        Failure::Memory
-    }
-}
-
-impl Failure {
-    /// By the number, for the reason at `Refused`.
-    pub fn refused(number: usize, place: usize) -> Failure {
-        Failure::Refused(Refused { number, place })
+impl Refused {
+    pub fn new(number: usize, place: usize) -> Refused {
+        Refused { number, place }
     }
 }

@@ -1,12 +1,12 @@
 //! One case: the library and the independent evaluator on the same input, with the same memory lent
 //! to both.
 
-use crate::answer::{Answer, Failure, Reply};
+use crate::answer::{Answer, Refused, Reply};
 use crate::file::File;
 use crate::library::{Library, NOT_LENT};
 use crate::model::Model;
 use crate::operation::{Conversion, Operation};
-use std::alloc::{AllocError, Global};
+use arrayvec::ArrayVec;
 
 /// How much memory is lent to an operation, and the byte of which it is full.
 #[derive(Clone, Copy)]
@@ -32,7 +32,6 @@ impl Rooms {
 // It owns files: nothing copies or compares it.
 #[derive(Drop)]
 pub struct Case {
-    pub alloc: Global,
     pub policy: File,
     pub request: File,
     pub text: File,
@@ -86,25 +85,25 @@ pub struct Both {
 
 impl Both {
     /// Answers without memory.
-    fn of_answers(library: Answer, model: Result<Reply, Failure>) -> Result<Both, AllocError> {
-        let model = match model {
-            Ok(reply) => Ok(reply),
-            Err(Failure::Refused(refused)) => Err(refused),
-            Err(Failure::Memory) => return Err(AllocError),
-        };
-        Ok(Both {
+    fn of_answers(library: Answer, model: Answer) -> Both {
+        Both {
             library,
             model,
             agree: library == model,
-        })
+        }
     }
 
     /// Answers of an operation that writes: the library into this memory. A refusal writes nothing.
-    fn of_writing<T: Copy + PartialEq, const N: usize, F: FnOnce(&mut [T]) -> Answer>(
+    fn of_writing<
+        T: Copy + PartialEq,
+        const N: usize,
+        const M: usize,
+        F: FnOnce(&mut [T]) -> Answer,
+    >(
         mut memory: Memory<T, N>,
         operation: F,
-        model: Result<(Reply, Vec<T>), Failure>,
-    ) -> Result<Both, AllocError>
+        model: Result<(Reply, ArrayVec<T, M>), Refused>,
+    ) -> Both
         requires { F.IsAlwaysCallable operation }
     {
         let library = memory.lend(operation);
@@ -112,21 +111,20 @@ impl Both {
             Ok((_, written)) => memory.has_only(written.as_slice()),
             Err(_) => memory.has_only(&[]),
         };
-        let both = Both::of_answers(library, model.map(|(reply, _)| reply))?;
-        Ok(Both {
+        let both = Both::of_answers(library, model.map(|(reply, _)| reply));
+        Both {
             agree: both.agree && is_right,
             ..both
-        })
+        }
     }
 }
 
 impl Case {
-    pub fn new(alloc: Global) -> Case {
+    pub fn new() -> Case {
         Case {
-            alloc,
-            policy: File::new(alloc),
-            request: File::new(alloc),
-            text: File::new(alloc),
+            policy: File::new(),
+            request: File::new(),
+            text: File::new(),
             rooms: Rooms::of(0),
         }
     }
@@ -142,7 +140,6 @@ impl Case {
 
     fn model(&self) -> Model<'_> {
         Model {
-            alloc: self.alloc,
             policy: self.policy.bytes(),
             request: self.request.bytes(),
         }
@@ -156,7 +153,7 @@ impl Case {
     /// The operation on this case's policy, request and memory.
     // One total match on an enum: a table of closures would need one type for operations that take
     // and write different things.
-    pub fn run(&self, operation: Operation) -> Result<Both, AllocError> {
+    pub fn run(&self, operation: Operation) -> Both {
         let (library, model) = (self.library(), self.model());
         let Rooms {
             list,

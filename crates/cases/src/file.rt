@@ -1,13 +1,13 @@
 //! Files and texts under construction.
 
 use crate::pair::Pair;
-use std::alloc::{AllocError, Global};
+use arrayvec::ArrayVec;
 
 /// A file that is built byte by byte. What is past its 2,048th byte is lost.
-// It owns a Vec: nothing copies or compares it.
+// It owns a list: nothing copies or compares it.
 #[derive(Drop)]
 pub struct File {
-    bytes: Vec<u8>,
+    bytes: ArrayVec<u8, 2048>,
     /// Whether a byte was ever lost, which a later `cut` does not undo, so no length tells it.
     is_cut: bool,
 }
@@ -16,18 +16,18 @@ impl File {
     /// The most bytes that a file keeps: a length, no kind of anything.
     pub const LONGEST: usize = 2048;
 
-    pub fn new(alloc: Global) -> File {
+    pub fn new() -> File {
         File {
-            bytes: Vec::new(alloc),
+            bytes: ArrayVec::new(),
             is_cut: false,
         }
     }
 
     /// Three bytes for a version and a length, which `state` fills in.
-    pub fn with_frame(alloc: Global) -> Result<File, AllocError> {
-        let mut file = File::new(alloc);
-        file.extend(&[0, 0, 0])?;
-        Ok(file)
+    pub fn with_frame() -> File {
+        let mut file = File::new();
+        file.extend(&[0, 0, 0]);
+        file
     }
 
     pub fn bytes(&self) -> &[u8] {
@@ -39,25 +39,21 @@ impl File {
         !self.is_cut && self.bytes.len() == bytes
     }
 
-    pub fn push(&mut self, byte: u8) -> Result<(), AllocError> {
-        if self.bytes.len() < File::LONGEST {
-            self.bytes.push(byte)?;
-        } else {
+    pub fn push(&mut self, byte: u8) {
+        if self.bytes.try_push(byte).is_err() {
             self.is_cut = true;
         }
-        Ok(())
     }
 
-    pub fn extend(&mut self, bytes: &[u8]) -> Result<(), AllocError> {
+    pub fn extend(&mut self, bytes: &[u8]) {
         for byte in bytes {
-            self.push(*byte)?;
+            self.push(*byte);
         }
-        Ok(())
     }
 
-    pub fn push_pair(&mut self, pair: Pair) -> Result<(), AllocError> {
-        self.extend(&pair.name.to_be_bytes())?;
-        self.extend(&pair.value.to_be_bytes())
+    pub fn push_pair(&mut self, pair: Pair) {
+        self.extend(&pair.name.to_be_bytes());
+        self.extend(&pair.value.to_be_bytes());
     }
 
     /// Replaces a byte. Where there is none, nothing happens.

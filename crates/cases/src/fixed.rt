@@ -6,7 +6,6 @@ use crate::compare::{Case, Rooms};
 use crate::line::Line;
 use crate::operation::{Conversion, Operation, Trial};
 use crate::tally::Tally;
-use std::alloc::{AllocError, Global};
 
 /// The answer on a line: refused and exposed say so, and a policy that is not exposed has its pairs
 /// only.
@@ -31,7 +30,7 @@ fn answer_of<F: FnOnce(usize) -> Reply>(line: Line<'_>, reply: F) -> Answer
 }
 
 /// The case that the lines have set up, and the tally of what was tried on it.
-// It owns both: nothing copies or compares it.
+// It owns files: nothing copies or compares it.
 #[derive(Drop)]
 struct Fixed {
     case: Case,
@@ -44,9 +43,9 @@ impl Fixed {
     }
 
     /// The answer of the library must be that of the line, and all operations must agree.
-    fn expect(&mut self, operation: Operation, line: Line<'_>) -> Result<(), AllocError> {
-        let both = self.case.run(operation)?;
-        let first = self.tally.first_to_disagree(&self.case)?;
+    fn expect(&mut self, operation: Operation, line: Line<'_>) {
+        let both = self.case.run(operation);
+        let first = self.tally.first_to_disagree(&self.case);
         let wanted = answer_of(line, |value| operation.reply(value));
         let disagreed = if both.library == wanted {
             first
@@ -54,7 +53,6 @@ impl Fixed {
             Some(operation)
         };
         self.record(disagreed.map(Trial::Operation));
-        Ok(())
     }
 
     /// The other form must be that of the case, with the answer of the line.
@@ -66,47 +64,42 @@ impl Fixed {
     }
 
     /// The space lent to a search must begin with the bytes of the line.
-    fn begins(&mut self, line: Line<'_>) -> Result<(), AllocError> {
-        let front = line.bytes(self.case.alloc)?;
-        let is_right = self.case.search_begins(front.bytes());
+    fn begins(&mut self, line: Line<'_>) {
+        let is_right = self.case.search_begins(line.bytes().bytes());
         self.record((!is_right).then_some(Trial::Operation(Operation::Search)));
-        Ok(())
     }
 
     /// A line sets a part of the case or is tried on it, by its first letter.
-    fn run(&mut self, line: Line<'_>) -> Result<(), AllocError> {
-        let alloc = self.case.alloc;
+    fn run(&mut self, line: Line<'_>) {
         match line.letter() {
-            b'p' => self.case.policy = line.bytes(alloc)?,
-            b'r' => self.case.request = line.bytes(alloc)?,
+            b'p' => self.case.policy = line.bytes(),
+            b'r' => self.case.request = line.bytes(),
             b'm' => self.case.rooms = Rooms::of(line.number(0)),
-            b't' => self.case.text = line.typed(alloc)?,
-            b'h' => self.case.text = line.bytes(alloc)?,
-            b'b' => self.begins(line)?,
+            b't' => self.case.text = line.typed(),
+            b'h' => self.case.text = line.bytes(),
+            b'b' => self.begins(line),
             letter => {
                 if let Some(operation) = Operation::of_letter(letter) {
-                    self.expect(operation, line)?;
+                    self.expect(operation, line);
                 } else if let Some(conversion) = Conversion::of_letter(letter) {
                     self.convert(conversion, line);
                 }
             }
         }
-        Ok(())
     }
 }
 
 /// The tally of the cases of this text.
-pub fn all(alloc: Global, text: &[u8]) -> Result<Tally, AllocError> {
+pub fn all(text: &[u8]) -> Tally {
     let mut fixed = Fixed {
-        case: Case::new(alloc),
-        tally: Tally::new(alloc),
+        case: Case::new(),
+        tally: Tally::EMPTY,
     };
     for line in text.split_inclusive(|byte| *byte == b'\n') {
         // A last line without its line feed is none.
         if line.ends_with(b"\n") {
-            fixed.run(Line::new(line))?;
+            fixed.run(Line::new(line));
         }
     }
-    let Fixed { tally, .. } = fixed;
-    Ok(tally)
+    fixed.tally
 }

@@ -6,7 +6,7 @@ use crate::file::File;
 use crate::pair::Pair;
 use crate::random::Random;
 use crate::term::{Sort, Tag};
-use std::alloc::{AllocError, Global};
+use arrayvec::ArrayVec;
 
 /// What a policy's nodes are picked from. The first four are the leaves. In this table and the two
 /// below, what stands there more often is picked more often.
@@ -59,7 +59,7 @@ struct Plan {
 }
 
 /// A node that is due, by its sort and how deep it stands; the root is at depth 1.
-#[derive(Clone, Copy)]
+#[derive(Clone, Copy, Default)]
 struct Due {
     sort: Sort,
     depth: usize,
@@ -73,18 +73,16 @@ impl Due {
     }
 }
 
-/// What makes cases: where their memory is from, and the numbers.
+/// What makes cases, from numbers.
 #[derive(Clone, Copy)]
 pub struct Generator {
-    alloc: Global,
     random: Random,
 }
 
 impl Generator {
-    pub fn new(alloc: Global) -> Generator {
-        let random = Random::FIRST;
-        Generator { alloc, random }
-    }
+    pub const FIRST: Generator = Generator {
+        random: Random::FIRST,
+    };
 
     /// One plan in ten is large.
     fn plan(&mut self) -> Plan {
@@ -141,48 +139,49 @@ impl Generator {
     }
 
     /// A policy file of at most 320 nodes: a policy that has more to come by then is cut.
-    fn policy(&mut self, plan: Plan) -> Result<File, AllocError> {
-        let mut file = File::with_frame(self.alloc)?;
-        let mut due = Vec::new(self.alloc);
-        due.push(Due {
+    fn policy(&mut self, plan: Plan) -> File {
+        let mut file = File::with_frame();
+        // Each node takes one away and adds two at most.
+        let mut due = ArrayVec::<Due, 321>::new();
+        let _ = due.try_push(Due {
             sort: Sort::Policy,
             depth: 1,
-        })?;
+        });
         // It counts the nodes up to the limit, and indexes nothing.
         for written in 0..320 {
             let Some(node) = due.pop() else {
                 break;
             };
             let tag = self.tag(plan, node, written);
-            owe_parts(&mut due, node, tag)?;
-            file.push(u8::from(tag))?;
+            owe_parts(&mut due, node, tag);
+            file.push(u8::from(tag));
             if tag == Tag::Atom {
-                file.push_pair(self.pair(plan))?;
+                file.push_pair(self.pair(plan));
             }
         }
         file.state();
-        Ok(file)
+        file
     }
 
     /// A request file of pairs in order, one in so many of those of six names from the policy's
     /// first on.
-    fn request(&mut self, plan: Plan, one_in: usize) -> Result<File, AllocError> {
-        let mut file = File::with_frame(self.alloc)?;
+    fn request(&mut self, plan: Plan, one_in: usize) -> File {
+        let mut file = File::with_frame();
         // They are names and values themselves, and index nothing.
         for name in 0..6 {
             for value in 0..4 {
                 if self.random.below(one_in) == 0 {
                     let name = plan.base.wrapping_add(name);
-                    file.push_pair(Pair { name, value })?;
+                    file.push_pair(Pair { name, value });
                 }
             }
         }
         file.state();
-        Ok(file)
+        file
     }
 
     /// Damages one file in three.
-    fn damage(&mut self, file: &mut File) -> Result<(), AllocError> {
+    fn damage(&mut self, file: &mut File) {
         let place = self.random.below(file.bytes().len());
         let byte = self.random.byte();
         match self.random.below(24) {
@@ -194,15 +193,14 @@ impl Generator {
                 file.state();
             }
             4 => {
-                file.push(byte)?;
+                file.push(byte);
                 file.state();
             }
-            5 => file.push(byte)?,
+            5 => file.push(byte),
             6 => file.alter(0, byte),
             7 => file.cut(usize::from(byte % 3)),
             _ => {}
         }
-        Ok(())
     }
 
     fn rooms(&mut self) -> Rooms {
@@ -214,37 +212,33 @@ impl Generator {
         }
     }
 
-    pub fn case(&mut self) -> Result<Case, AllocError> {
+    pub fn case(&mut self) -> Case {
         let plan = self.plan();
         let one_in = self.random.below(8) + 1;
-        let mut policy = self.policy(plan)?;
-        let mut request = self.request(plan, one_in)?;
-        self.damage(&mut policy)?;
-        self.damage(&mut request)?;
-        Ok(Case {
-            alloc: self.alloc,
+        let mut policy = self.policy(plan);
+        let mut request = self.request(plan, one_in);
+        self.damage(&mut policy);
+        self.damage(&mut request);
+        Case {
             policy,
             request,
-            text: File::new(self.alloc),
+            text: File::new(),
             rooms: self.rooms(),
-        })
+        }
     }
 }
 
 /// Adds a node's parts to what is due, the first on top.
-fn owe_parts(due: &mut Vec<Due>, node: Due, tag: Tag) -> Result<(), AllocError> {
+fn owe_parts(due: &mut ArrayVec<Due, 321>, node: Due, tag: Tag) {
     let part = node.part(node.sort);
-    match tag {
-        Tag::Atom | Tag::Deny | Tag::Allow => {}
-        Tag::TargetNot | Tag::Optional | Tag::PolicyNot | Tag::DenyByDefault => due.push(part)?,
-        Tag::TargetAnd | Tag::TargetOr | Tag::PolicyAnd | Tag::PolicyOr => {
-            due.push(part)?;
-            due.push(part)?;
-        }
-        Tag::Targeted => {
-            due.push(part)?;
-            due.push(node.part(Sort::Target))?;
-        }
+    let (first, second) = match tag {
+        Tag::Atom | Tag::Deny | Tag::Allow => return,
+        Tag::TargetNot | Tag::Optional | Tag::PolicyNot | Tag::DenyByDefault => (part, None),
+        Tag::TargetAnd | Tag::TargetOr | Tag::PolicyAnd | Tag::PolicyOr => (part, Some(part)),
+        Tag::Targeted => (node.part(Sort::Target), Some(part)),
+    };
+    if let Some(second) = second {
+        let _ = due.try_push(second);
     }
-    Ok(())
+    let _ = due.try_push(first);
 }

@@ -1,7 +1,7 @@
 //! The lines of the fixed cases, each with its line feed: a word, then bytes or numbers.
 
 use crate::file::File;
-use std::alloc::{AllocError, Global};
+use arrayvec::ArrayVec;
 
 /// A digit's value by its character; what is no hexadecimal digit counts 16.
 fn digit(character: u8) -> u8 {
@@ -56,23 +56,23 @@ impl<'a> Line<'a> {
     }
 
     /// What is typed on the line behind its first word, with the line feed.
-    pub fn typed(self, alloc: Global) -> Result<File, AllocError> {
-        let mut file = File::new(alloc);
+    pub fn typed(self) -> File {
+        let mut file = File::new();
         for byte in self.text.iter().skip(b"type ".len()) {
-            file.push(*byte)?;
+            file.push(*byte);
         }
-        Ok(file)
+        file
     }
 
     /// The bytes of the line. N( .. ) stands for N copies, in which a byte with + behind it grows
     /// by one from copy to copy.
-    pub fn bytes(self, alloc: Global) -> Result<File, AllocError> {
-        let mut draft = Draft::new(alloc);
+    pub fn bytes(self) -> File {
+        let mut draft = Draft::new();
         let mut words = self.text.splitn(2, |character| *character == b' ');
         for character in words.nth(1).unwrap_or(&[]) {
-            draft.draw(alloc, *character)?;
+            draft.draw(*character);
         }
-        draft.finish(alloc)
+        draft.finish()
     }
 }
 
@@ -85,7 +85,7 @@ struct Number {
 }
 
 /// A byte, and by how much it grows from copy to copy.
-#[derive(Clone, Copy)]
+#[derive(Clone, Copy, Default)]
 struct Drawn {
     byte: u8,
     step: u8,
@@ -113,12 +113,12 @@ impl Drawn {
     }
 }
 
-/// Bytes in the making: the number that is open, by how much its byte grows, where the last group
-/// began, and of how many copies it is.
-// It owns a Vec: nothing copies or compares it.
+/// Bytes in the making, one more of them than a file keeps: the number that is open, by how much its
+/// byte grows, where the last group began, and of how many copies it is.
+// It owns a list: nothing copies or compares it.
 #[derive(Drop)]
 struct Draft {
-    drawn: Vec<Drawn>,
+    drawn: ArrayVec<Drawn, 2049>,
     open: Option<Number>,
     step: u8,
     start: usize,
@@ -126,9 +126,9 @@ struct Draft {
 }
 
 impl Draft {
-    fn new(alloc: Global) -> Draft {
+    fn new() -> Draft {
         Draft {
-            drawn: Vec::new(alloc),
+            drawn: ArrayVec::new(),
             open: None,
             step: 0,
             start: 0,
@@ -136,69 +136,58 @@ impl Draft {
         }
     }
 
-    /// Whether there is more than a file keeps, so that what follows makes no difference.
-    fn is_full(&self) -> bool {
-        self.drawn.len() > File::LONGEST
-    }
-
-    fn push(&mut self, drawn: Drawn) -> Result<(), AllocError> {
-        if !self.is_full() {
-            self.drawn.push(drawn)?;
-        }
-        Ok(())
-    }
-
     /// Adds the byte that is open.
-    fn close(&mut self) -> Result<(), AllocError> {
+    fn close(&mut self) {
         if let Some(number) = self.open.take() {
             let drawn = Drawn {
                 byte: number.hexadecimal,
                 step: self.step,
             };
             self.step = 0;
-            self.push(drawn)?;
+            // What a file does not keep makes no difference, here and below.
+            let _ = self.drawn.try_push(drawn);
         }
-        Ok(())
     }
 
     /// Adds the other copies of the group, of which one is there.
-    fn repeat(&mut self, alloc: Global) -> Result<(), AllocError> {
-        let mut group: Vec<Drawn> = self.drawn.iter().skip(self.start).copied().collect(alloc)?;
+    fn repeat(&mut self) {
+        let mut group = ArrayVec::<Drawn, 2049>::new();
+        for drawn in self.drawn.iter().skip(self.start) {
+            let _ = group.try_push(*drawn);
+        }
         // It repeats, and indexes nothing.
         for _ in 1..self.times {
-            if self.is_full() {
+            if self.drawn.is_full() {
                 break;
             }
             for drawn in group.iter_mut() {
                 *drawn = drawn.copied();
-                self.push(*drawn)?;
+                let _ = self.drawn.try_push(*drawn);
             }
         }
-        Ok(())
     }
 
-    fn draw(&mut self, alloc: Global, character: u8) -> Result<(), AllocError> {
+    fn draw(&mut self, character: u8) {
         match character {
-            b' ' | b'\n' => self.close()?,
+            b' ' | b'\n' => self.close(),
             b'(' => {
                 self.times = self.open.take().map_or(0, |number| number.decimal);
                 self.start = self.drawn.len();
             }
-            b')' => self.repeat(alloc)?,
+            b')' => self.repeat(),
             b'+' => self.step = 1,
             _ => {
                 let open = self.open.unwrap_or(Number::ZERO);
                 self.open = Some(open.with(digit(character)));
             }
         }
-        Ok(())
     }
 
-    fn finish(self, alloc: Global) -> Result<File, AllocError> {
-        let mut file = File::new(alloc);
+    fn finish(self) -> File {
+        let mut file = File::new();
         for drawn in &self.drawn {
-            file.push(drawn.byte)?;
+            file.push(drawn.byte);
         }
-        Ok(file)
+        file
     }
 }

@@ -27,11 +27,9 @@ ghost use Rattle.std.specs.Prelude.{◌≤◌, length, IfOk};
 
 use generate::Generator;
 use operation::Trial;
-use std::alloc::{AllocError, Global};
-use std::collections::BTreeSet;
 use std::io;
 use std::io::Read;
-use tally::Tally;
+use tally::{Numbers, Tally};
 
 /// Reads until the buffer is full or the input ends: how many bytes there are at its front.
 // Not `read_to_end`: it asks for less at a time, and of a packet that does not fit the rest is lost.
@@ -49,20 +47,18 @@ fn read_full(input: &mut impl Read, buffer: &mut [u8]) -> io::Result<usize>
     Ok(done)
 }
 
-fn generated(alloc: Global, tally: &mut Tally) -> Result<(), AllocError> {
-    let mut generator = Generator::new(alloc);
+fn generated(tally: &mut Tally) {
+    let mut generator = Generator::FIRST;
     // It repeats, and indexes nothing.
     for _ in 0..10000 {
-        let case = generator.case()?;
-        let first = tally.first_to_disagree(&case)?;
+        let first = tally.first_to_disagree(&generator.case());
         tally.generated.record(first.map(Trial::Operation));
     }
-    Ok(())
 }
 
-fn met(rt: &impl Print, what: &str, numbers: &BTreeSet<usize>) -> io::Result<()> {
+fn met(rt: &impl Print, what: &str, numbers: Numbers) -> io::Result<()> {
     print!(rt; "{what} met")?;
-    for number in numbers {
+    for number in (0..64).filter(|number| numbers.contains(*number)) {
         print!(rt; " {number}")?;
     }
     println!(rt; "")
@@ -83,17 +79,16 @@ fn report(rt: &impl Print, tally: &Tally) -> io::Result<()> {
     println!(rt; "fixed {}", tally.fixed)?;
     println!(rt; "generated {}", tally.generated)?;
     report_first(rt, tally)?;
-    met(rt, "refusals", &tally.refusals)?;
-    met(rt, "sets", &tally.sets)?;
-    met(rt, "certificates", &tally.rules)?;
+    met(rt, "refusals", tally.refusals)?;
+    met(rt, "sets", tally.sets)?;
+    met(rt, "certificates", tally.rules)?;
     println!(rt; "resistant {} exposed {}", tally.resistant, tally.exposed)
 }
 
 fn main(rt: HostRuntime) -> io::Result<()> {
-    let alloc = rt.alloc();
     let mut text = [0; 65536];
     let len = read_full(&mut rt.reader(), &mut text)?;
-    let mut tally = fixed::all(alloc, &text[..len])?;
-    generated(alloc, &mut tally)?;
+    let mut tally = fixed::all(&text[..len]);
+    generated(&mut tally);
     report(&rt, &tally)
 }

@@ -2,12 +2,13 @@
 //! target may come to one value only.
 
 use crate::pair::Pair;
-use crate::term::Term;
+use crate::term::{Node, Parts, Policy, next_part};
+use arrayvec::ArrayVec;
 
 /// The values that a term may come to.
 // A set of the three values, each a fact of its own; the library's `DecisionSet` is what this is
 // compared with.
-#[derive(Clone, Copy)]
+#[derive(Clone, Copy, Default)]
 pub struct Values {
     zero: bool,
     one: bool,
@@ -84,24 +85,31 @@ impl Values {
         }
     }
 
+    /// What a node may come to by its parts, for a request that holds these pairs.
+    fn of_node(node: Node, parts: &mut Parts<Values>, held: &[Pair]) -> Values {
+        match node {
+            Node::Deny => Values::ZERO,
+            Node::Allow => Values::ONE,
+            Node::Atom(pair) => Values::of_atom(pair, held),
+            Node::Not => next_part(parts).opposite(),
+            Node::Default => next_part(parts).by_default(),
+            Node::And => next_part(parts).and(next_part(parts)),
+            Node::Or => next_part(parts).or(next_part(parts)),
+            Node::Targeted => next_part(parts).guarding(next_part(parts)),
+        }
+    }
+
     /// The code of the set: 1 for allow, 2 for deny, 4 for undefined, added up.
     pub fn code(self) -> usize {
         usize::from(self.one) | usize::from(self.zero) << 1 | usize::from(self.undefined) << 2
     }
 }
 
-impl Term {
-    /// What the term may come to for a request that holds these pairs.
+impl Policy {
+    /// What the policy may come to for a request that holds these pairs.
     pub fn values(&self, held: &[Pair]) -> Values {
-        match self {
-            Term::Deny => Values::ZERO,
-            Term::Allow => Values::ONE,
-            Term::Atom(pair) => Values::of_atom(*pair, held),
-            Term::Not(part) => part.values(held).opposite(),
-            Term::Default(part) => part.values(held).by_default(),
-            Term::And(first, second) => first.values(held).and(second.values(held)),
-            Term::Or(first, second) => first.values(held).or(second.values(held)),
-            Term::Targeted(target, body) => target.values(held).guarding(body.values(held)),
-        }
+        self.fold(ArrayVec::new(), |node, parts: &mut Parts<Values>| {
+            Values::of_node(node, parts, held)
+        })
     }
 }

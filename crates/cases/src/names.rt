@@ -2,19 +2,23 @@
 
 use crate::pair::Pair;
 use crate::term::Policy;
-use std::alloc::{AllocError, Global};
+use arrayvec::ArrayVec;
 
 impl Policy {
     /// The pairs of the policy's atoms and their names' fresh pairs, in order and each once.
-    pub fn pairs(&self, alloc: Global) -> Result<Vec<Pair>, AllocError> {
-        let mut pairs = Vec::new(alloc);
-        for pair in &self.named {
-            pairs.push(*pair)?;
-            pairs.push(pair.unlisted(self.named.as_slice()))?;
+    pub fn pairs(&self) -> ArrayVec<Pair, 510> {
+        let named = self.named.as_slice();
+        let mut pairs = ArrayVec::<Pair, 510>::new();
+        for pair in named {
+            for pair in [*pair, pair.unlisted(named)] {
+                if !pairs.contains(&pair) {
+                    // There is room for two pairs of each atom.
+                    let _ = pairs.try_push(pair);
+                }
+            }
         }
         pairs.sort_unstable();
-        pairs.dedup();
-        Ok(pairs)
+        pairs
     }
 
     /// Whether a pair of the policy is in the normal form of a request that holds these pairs: a
@@ -29,10 +33,9 @@ impl Policy {
     }
 
     /// The policy's pairs in the normal form of a request that holds these pairs.
-    pub fn normal_form(&self, alloc: Global, held: &[Pair]) -> Result<Vec<Pair>, AllocError> {
-        self.pairs(alloc)?
-            .into_iter()
-            .filter(|pair| self.is_kept(*pair, held))
-            .collect(alloc)
+    pub fn normal_form(&self, held: &[Pair]) -> ArrayVec<Pair, 510> {
+        let mut pairs = self.pairs();
+        pairs.retain(|pair| self.is_kept(*pair, held));
+        pairs
     }
 }

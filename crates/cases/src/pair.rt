@@ -2,7 +2,7 @@
 
 /// A name and a value, in the order of a file's bytes. It is not the library's `Pair`: what the
 /// library answers is compared with what this program finds without it.
-#[derive(Clone, Copy, PartialEq, Eq, PartialOrd, Ord)]
+#[derive(Clone, Copy, Default, PartialEq, Eq, PartialOrd, Ord)]
 pub struct Pair {
     pub name: u16,
     pub value: u16,

@@ -1,6 +1,7 @@
 //! The structural rules, by facts of each policy in a policy.
 
-use crate::term::Term;
+use crate::term::{Node, Parts, Policy, next_part};
+use arrayvec::ArrayVec;
 
 /// The structural rules, by their numbers.
 #[derive(Clone, Copy, PartialEq, Eq)]
@@ -24,7 +25,7 @@ impl From<Rule> for usize {
 
 /// Which decisions a policy never comes to, as the rules find it by its parts.
 // Two facts of their own, neither a flag beside a value.
-#[derive(Clone, Copy)]
+#[derive(Clone, Copy, Default)]
 struct Never {
     allows: bool,
     denies: bool,
@@ -51,15 +52,17 @@ impl Never {
     }
 }
 
-/// What is known of a policy: what it never comes to, what stands in it, and its rule.
+/// What is known of a policy: what it never comes to, what stands in it, and its rule. Of a target
+/// it counts alone whether it has a not.
 // Each a fact of its own, none a flag beside a value.
-#[derive(Clone, Copy)]
+#[derive(Clone, Copy, Default)]
 struct Facts {
     never: Never,
     has_target: bool,
     has_target_not: bool,
     has_default: bool,
-    has_policy_not: bool,
+    /// Outside its targets.
+    has_not: bool,
     /// The smallest rule that applies.
     rule: Option<Rule>,
 }
@@ -75,7 +78,7 @@ impl Facts {
             has_target: false,
             has_target_not: false,
             has_default: false,
-            has_policy_not: false,
+            has_not: false,
             rule: None,
         }
         .judged(None)
@@ -89,7 +92,7 @@ impl Facts {
             Some(Rule::NoTarget)
         } else if !self.has_target_not && !self.has_default {
             Some(Rule::NoNotInTargetsAndNoDefault)
-        } else if !self.has_target_not && !self.has_policy_not {
+        } else if !self.has_target_not && !self.has_not {
             Some(Rule::NoNotAtAll)
         } else {
             by_parts
@@ -100,7 +103,7 @@ impl Facts {
     fn not(self) -> Facts {
         Facts {
             never: self.never.opposite(),
-            has_policy_not: true,
+            has_not: true,
             ..self
         }
         .judged(None)
@@ -125,54 +128,45 @@ impl Facts {
             has_target: self.has_target || other.has_target,
             has_target_not: self.has_target_not || other.has_target_not,
             has_default: self.has_default || other.has_default,
-            has_policy_not: self.has_policy_not || other.has_policy_not,
+            has_not: self.has_not || other.has_not,
             rule: None,
         }
         .judged(self.rule.and(other.rule).map(|_| rule))
     }
 
-    fn guarded_by(self, target: &Term) -> Facts {
+    fn and(self, other: Facts) -> Facts {
+        self.with(other, self.never.and(other.never), Rule::AndOfCertified)
+    }
+
+    fn or(self, other: Facts) -> Facts {
+        self.with(other, self.never.or(other.never), Rule::OrOfCertified)
+    }
+
+    fn guarding(self, body: Facts) -> Facts {
         Facts {
             has_target: true,
-            has_target_not: self.has_target_not || target.has_not(),
-            ..self
+            has_target_not: body.has_target_not || self.has_not,
+            ..body
         }
         .judged(None)
     }
+
+    fn of_node(node: Node, parts: &mut Parts<Facts>) -> Facts {
+        match node {
+            Node::Deny | Node::Atom(_) => Facts::of_leaf(false),
+            Node::Allow => Facts::of_leaf(true),
+            Node::Not => next_part(parts).not(),
+            Node::Default => next_part(parts).by_default(),
+            Node::And => next_part(parts).and(next_part(parts)),
+            Node::Or => next_part(parts).or(next_part(parts)),
+            Node::Targeted => next_part(parts).guarding(next_part(parts)),
+        }
+    }
 }
 
-impl Term {
-    fn has_not(&self) -> bool {
-        match self {
-            Term::Deny | Term::Allow | Term::Atom(_) => false,
-            Term::Not(_) => true,
-            Term::Default(part) => part.has_not(),
-            Term::And(first, second) | Term::Or(first, second) | Term::Targeted(first, second) => {
-                first.has_not() || second.has_not()
-            }
-        }
-    }
-
-    fn facts(&self) -> Facts {
-        match self {
-            Term::Deny | Term::Atom(_) => Facts::of_leaf(false),
-            Term::Allow => Facts::of_leaf(true),
-            Term::Not(part) => part.facts().not(),
-            Term::Default(part) => part.facts().by_default(),
-            Term::And(first, second) => {
-                let (first, second) = (first.facts(), second.facts());
-                first.with(second, first.never.and(second.never), Rule::AndOfCertified)
-            }
-            Term::Or(first, second) => {
-                let (first, second) = (first.facts(), second.facts());
-                first.with(second, first.never.or(second.never), Rule::OrOfCertified)
-            }
-            Term::Targeted(target, body) => body.facts().guarded_by(target),
-        }
-    }
-
+impl Policy {
     /// The smallest structural rule that applies to the policy.
     pub fn certificate(&self) -> Option<Rule> {
-        self.facts().rule
+        self.fold(ArrayVec::new(), Facts::of_node).rule
     }
 }

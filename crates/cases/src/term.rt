@@ -1,12 +1,13 @@
-//! Policies as terms, read from their files from left to right.
+//! Policies as lists of nodes, read from their files from left to right.
 
-use crate::answer::Failure;
+use crate::answer::Refused;
 use crate::pair::Pair;
-use std::alloc::Global;
+use arrayvec::ArrayVec;
 
 /// What is due at a node.
-#[derive(Clone, Copy, PartialEq, Eq)]
+#[derive(Clone, Copy, Default, PartialEq, Eq)]
 pub enum Sort {
+    #[default]
     Policy,
     Target,
 }
@@ -65,28 +66,38 @@ impl Tag {
     }
 }
 
-/// A policy or a target. Not, default, and and or mean the same of both.
-// It owns its parts: nothing copies or compares it.
-#[derive(Drop)]
-pub enum Term {
+/// A node of a policy or of a target. Not, default, and and or mean the same of both.
+#[derive(Clone, Copy, Default)]
+pub enum Node {
+    #[default]
     Deny,
     Allow,
     Atom(Pair),
-    Not(Box<Term>),
+    Not,
     /// Deny by default, and an optional target.
-    Default(Box<Term>),
-    And(Box<Term>, Box<Term>),
-    Or(Box<Term>, Box<Term>),
-    /// A target, and the policy that it guards.
-    Targeted(Box<Term>, Box<Term>),
+    Default,
+    And,
+    Or,
+    /// A target, and behind it the policy that it guards.
+    Targeted,
+}
+
+/// What the terms come to that are done and not yet part of another, the first of them on top. Of a
+/// policy of 32 levels there are never more than 32.
+pub type Parts<V> = ArrayVec<V, 32>;
+
+/// What the next part of a node comes to, from left to right.
+pub fn next_part<V: Copy + Default>(parts: &mut Parts<V>) -> V {
+    parts.pop().unwrap_or_default()
 }
 
 /// A policy that was read, with the pairs of its atoms from left to right.
-// It owns a term and a Vec: nothing copies or compares it.
+// Its nodes are a list as in the file, and no tree in boxes: the program asks the system for no
+// memory, so that it runs where there is none to be had.
 #[derive(Drop)]
 pub struct Policy {
-    pub term: Box<Term>,
-    pub named: Vec<Pair>,
+    nodes: ArrayVec<Node, 255>,
+    pub named: ArrayVec<Pair, 255>,
 }
 
 /// The numbers of the refusals of a file that is short, of another version, of another length than
@@ -100,30 +111,27 @@ pub struct Frame {
 
 impl Frame {
     /// The body of a file: what stands behind the version and the length.
-    pub fn body_of(self, file: &[u8]) -> Result<&[u8], Failure> {
+    pub fn body_of(self, file: &[u8]) -> Result<&[u8], Refused> {
         let [version, high, low, body @ ..] = file else {
-            return Err(Failure::refused(self.short, file.len()));
+            return Err(Refused::new(self.short, file.len()));
         };
         if *version != 1 {
-            return Err(Failure::refused(self.version, 0));
+            return Err(Refused::new(self.version, 0));
         }
         if usize::from(u16::from_be_bytes([*high, *low])) != body.len() {
-            return Err(Failure::refused(self.length, 1));
+            return Err(Refused::new(self.length, 1));
         }
         Ok(body)
     }
 }
 
-/// A policy file, what is left of it, how many nodes there may still be, and the pairs of the atoms
-/// so far.
-// It owns a Vec: nothing copies or compares it.
+/// A policy file, what is left of it, and the policy as far as it was read.
+// It owns lists: nothing copies or compares it.
 #[derive(Drop)]
 struct Reader<'a> {
-    alloc: Global,
     file: &'a [u8],
     rest: &'a [u8],
-    nodes_left: usize,
-    named: Vec<Pair>,
+    policy: Policy,
 }
 
 impl<'a> Reader<'a> {
@@ -131,87 +139,118 @@ impl<'a> Reader<'a> {
         self.file.len().saturating_sub(self.rest.len())
     }
 
+    fn refused(&self, number: usize) -> Refused {
+        Refused::new(number, self.place())
+    }
+
     /// The tag that comes next, where a node of this sort is due. It stays to be read.
-    fn tag(&self, sort: Sort) -> Result<Tag, Failure> {
+    fn tag(&self, sort: Sort) -> Result<Tag, Refused> {
         let Some(byte) = self.rest.first() else {
-            return Err(Failure::refused(4, self.file.len()));
+            return Err(Refused::new(4, self.file.len()));
         };
         let Some(tag) = Tag::of(*byte) else {
-            return Err(Failure::refused(5, self.place()));
+            return Err(self.refused(5));
         };
         if tag.sort() != sort {
-            return Err(Failure::refused(15, self.place()));
+            return Err(self.refused(15));
         }
         Ok(tag)
     }
 
     /// Reads N bytes, which are a part of a node: an array by a const parameter, no buffer.
-    fn take<const N: usize>(&mut self) -> Result<[u8; N], Failure> {
+    fn take<const N: usize>(&mut self) -> Result<[u8; N], Refused> {
         let Some((bytes, rest)) = self.rest.split_first_chunk::<N>() else {
-            return Err(Failure::refused(4, self.file.len()));
+            return Err(Refused::new(4, self.file.len()));
         };
         self.rest = rest;
         Ok(*bytes)
     }
 
-    fn pair(&mut self) -> Result<Pair, Failure> {
-        let pair = Pair::from(self.take::<4>()?);
-        self.named.push(pair)?;
-        Ok(pair)
+    /// The node of this tag, of which the byte was read. Of an atom the numbers are read, too.
+    fn node(&mut self, tag: Tag) -> Result<Node, Refused> {
+        Ok(match tag {
+            Tag::Deny => Node::Deny,
+            Tag::Allow => Node::Allow,
+            Tag::Atom => {
+                let pair = Pair::from(self.take::<4>()?);
+                // There is room for a pair of each node.
+                let _ = self.policy.named.try_push(pair);
+                Node::Atom(pair)
+            }
+            Tag::TargetNot | Tag::PolicyNot => Node::Not,
+            Tag::Optional | Tag::DenyByDefault => Node::Default,
+            Tag::TargetAnd | Tag::PolicyAnd => Node::And,
+            Tag::TargetOr | Tag::PolicyOr => Node::Or,
+            Tag::Targeted => Node::Targeted,
+        })
     }
 
-    /// A term of this sort, of at most so many levels. At a node the tag is judged first, then the
-    /// depth, then the number of nodes, and then an atom's length.
-    fn term(&mut self, sort: Sort, levels: usize) -> Result<Box<Term>, Failure> {
+    /// Reads a term of this sort, of at most so many levels. At a node the tag is judged first, then
+    /// the depth, then the number of nodes, and then an atom's length.
+    fn term(&mut self, sort: Sort, levels: usize) -> Result<(), Refused> {
         let tag = self.tag(sort)?;
         let Some(levels) = levels.checked_sub(1) else {
-            return Err(Failure::refused(6, self.place()));
+            return Err(self.refused(6));
         };
-        let Some(nodes_left) = self.nodes_left.checked_sub(1) else {
-            return Err(Failure::refused(7, self.place()));
-        };
-        self.nodes_left = nodes_left;
+        if self.policy.nodes.is_full() {
+            return Err(self.refused(7));
+        }
         self.take::<1>()?;
-        let term = match tag {
-            Tag::Deny => Term::Deny,
-            Tag::Allow => Term::Allow,
-            Tag::Atom => Term::Atom(self.pair()?),
-            Tag::TargetNot | Tag::PolicyNot => Term::Not(self.term(sort, levels)?),
-            Tag::Optional | Tag::DenyByDefault => Term::Default(self.term(sort, levels)?),
-            Tag::TargetAnd | Tag::PolicyAnd => {
-                Term::And(self.term(sort, levels)?, self.term(sort, levels)?)
+        let node = self.node(tag)?;
+        let _ = self.policy.nodes.try_push(node);
+        match node {
+            Node::Deny | Node::Allow | Node::Atom(_) => Ok(()),
+            Node::Not | Node::Default => self.term(sort, levels),
+            Node::And | Node::Or => {
+                self.term(sort, levels)?;
+                self.term(sort, levels)
             }
-            Tag::TargetOr | Tag::PolicyOr => {
-                Term::Or(self.term(sort, levels)?, self.term(sort, levels)?)
+            Node::Targeted => {
+                self.term(Sort::Target, levels)?;
+                self.term(Sort::Policy, levels)
             }
-            Tag::Targeted => Term::Targeted(
-                self.term(Sort::Target, levels)?,
-                self.term(Sort::Policy, levels)?,
-            ),
-        };
-        Ok(Box::new(self.alloc, term)?)
+        }
     }
 }
 
 impl Policy {
-    pub fn read(alloc: Global, file: &[u8]) -> Result<Policy, Failure> {
+    pub fn read(file: &[u8]) -> Result<Policy, Refused> {
         let frame = Frame {
             short: 1,
             version: 2,
             length: 3,
         };
         let mut reader = Reader {
-            alloc,
             file,
             rest: frame.body_of(file)?,
-            nodes_left: 255,
-            named: Vec::new(alloc),
+            policy: Policy {
+                nodes: ArrayVec::new(),
+                named: ArrayVec::new(),
+            },
         };
-        let term = reader.term(Sort::Policy, 32)?;
+        reader.term(Sort::Policy, 32)?;
         if !reader.rest.is_empty() {
-            return Err(Failure::refused(8, reader.place()));
+            return Err(reader.refused(8));
         }
-        let Reader { named, .. } = reader;
-        Ok(Policy { term, named })
+        let Reader { policy, .. } = reader;
+        Ok(policy)
+    }
+
+    /// What the policy comes to, where `rule` tells what a node does by what its parts come to, which
+    /// stand in `parts`. The nodes are gone over from the last to the first, so that a node's parts are
+    /// done before it.
+    // It begins with the caller's empty list: how large a V is, which `new` must know, is known there.
+    pub fn fold<V: Copy + Default, F: Fn(Node, &mut Parts<V>) -> V>(
+        &self,
+        mut parts: Parts<V>,
+        rule: F,
+    ) -> V
+        requires { F.IsAlwaysCallable rule }
+    {
+        for node in self.nodes.iter().rev() {
+            let value = rule(*node, &mut parts);
+            let _ = parts.try_push(value);
+        }
+        next_part(&mut parts)
     }
 }
