@@ -7,7 +7,7 @@ use arrayvec::ArrayVec;
 // It owns a list: nothing copies or compares it.
 #[derive(Drop)]
 pub struct File {
-    bytes: ArrayVec<u8, 2048>,
+    bytes: ArrayVec<u8, { File::LONGEST }>,
     /// Whether a byte was ever lost, which a later `cut` does not undo, so no length tells it.
     is_cut: bool,
 }

@@ -2,6 +2,7 @@
 //! An operation that writes gives what it writes beside its reply.
 
 use crate::answer::{Answer, Refused, Reply};
+use crate::file::File;
 use crate::request;
 use crate::subsets::Subsets;
 use crate::term::Policy;
@@ -33,7 +34,10 @@ impl<'a> Model<'a> {
         Ok((Reply::Pairs(pairs.len()), numbers))
     }
 
-    pub fn normal_form(self, room: usize) -> Result<(Reply, ArrayVec<u8, 2048>), Refused> {
+    pub fn normal_form(
+        self,
+        room: usize,
+    ) -> Result<(Reply, ArrayVec<u8, { File::LONGEST }>), Refused> {
         let policy = Policy::read(self.policy)?;
         let held = request::read(self.request)?;
         let kept = policy.normal_form(held.as_slice());
@@ -50,7 +54,7 @@ impl<'a> Model<'a> {
         Ok(Reply::Rule(policy.certificate().map_or(0, usize::from)))
     }
 
-    pub fn search(self, room: usize) -> Result<(Reply, ArrayVec<u8, 2048>), Refused> {
+    pub fn search(self, room: usize) -> Result<(Reply, ArrayVec<u8, { File::LONGEST }>), Refused> {
         let policy = Policy::read(self.policy)?;
         let pairs = policy.pairs();
         if pairs.len() > 16 {

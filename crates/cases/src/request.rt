@@ -1,6 +1,7 @@
 //! Requests: reading them from their files, and writing them.
 
 use crate::answer::Refused;
+use crate::file::File;
 use crate::pair::Pair;
 use crate::term::Frame;
 use arrayvec::ArrayVec;
@@ -31,8 +32,8 @@ pub fn read(file: &[u8]) -> Result<ArrayVec<Pair, 256>, Refused> {
 }
 
 /// Adds the request file of these pairs to what is written.
-// It is cut where there is no more room, which is a disagreement with the library.
-pub fn write(pairs: &[Pair], written: &mut ArrayVec<u8, 2048>) {
+// There is room: a normal form has at most 1,019 bytes, and the two files of a search have 130.
+pub fn write(pairs: &[Pair], written: &mut ArrayVec<u8, { File::LONGEST }>) {
     let [.., high, low] = pairs.len().wrapping_mul(4).to_be_bytes();
     let _ = written.try_extend_from_slice(&[1, high, low]);
     for pair in pairs {

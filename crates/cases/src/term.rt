@@ -192,6 +192,7 @@ impl<'a> Reader<'a> {
         let Some(levels) = levels.checked_sub(1) else {
             return Err(self.refused(6));
         };
+        // The list has room for as many nodes as a policy may have, 255.
         if self.policy.nodes.is_full() {
             return Err(self.refused(7));
         }

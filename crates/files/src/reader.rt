@@ -39,6 +39,7 @@ pub fn limit(left: usize, nodes: usize) -> Result<(), Fault>
 const TAGS: u64 = (0x1f << tags::TARGET_ATOM) | (0x7f << tags::DENY);
 
 // Not by `Tag::try_from`: the two tests of a node's byte would become one table of jumps, slower where the byte is a tag.
+#[tactic(auto, using(crate::proofs::Nodes::tag_by_bit))]
 fn is_tag(byte: u8) -> bool
     ensures yes { IsTrue result → (tag : Tag) × (byte ≡ byte_of tag) }
     ensures no { IsFalse result → (tag : Tag) → byte ≡ byte_of tag → ⊥ }
@@ -173,7 +174,7 @@ impl<'a> Reader<'a> {
 
     // Each sort has a function of its own, in which the test of a node's sort is one of a constant. A bool with the fault
     // lent, and no Result: of a last call that returns one number the compiler makes a loop, and of one that returns two
-    // it makes none (31 nested nots took 2.5 times as long).
+    // it makes none, which takes longer where nots are nested.
     #[tactic(auto, using(crate::proofs::Terms::term_more))]
     fn target(&mut self, left: usize, fault: &mut Fault) -> bool
         ensures whole { IsTrue result → TellsTerm {s = target} (λ x. x) nothing left (Ok tt) self.old self.new }

@@ -92,6 +92,7 @@ pub fn put_digits(output: &mut Output<'_>, number: u32, most: usize)
 }
 
 /// Writes a number, its last five digits at most, and the byte behind it.
+#[tactic(auto, using(crate::proofs::Written::appends_twice), unfolding(crate::specs::Line::ended))]
 pub fn put_number(output: &mut Output<'_>, number: u32, end: End)
     requires { 6 ≤ room output.old }
     ensures { AppendsFew 6 output.old output.new (ended (decimal number) (end_of end)) }

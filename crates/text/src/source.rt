@@ -87,6 +87,7 @@ impl<'a> Source for Reader<'a> {
         }
     }
 
+    #[tactic(auto, using(crate::proofs::Bytes::pair_counted))]
     fn next_pair(&mut self, _end: End) -> Result<Pair, PolicyError> {
         match self.pair() {
             Ok(pair) => Ok(pair),
